@@ -173,38 +173,59 @@ class Shown:
             if found:
                 self.sizes[int(found[1], 16)] = int(found[2], 16)
 
+    def flow(self, entry, address):
+        """What comes after an instruction: its kind, and its target where it has one."""
+        _, name, words = self.at[address]
+        words = words.split(",")
+        if name in BRANCHES:
+            return "branch", int(words[2], 16)
+        if name == "jal":
+            return {"x0": "jump", "x1": "call"}.get(words[0], "unknown"), int(words[1], 16)
+        if name in ("ecall", "ebreak"):
+            return "stop", None
+        if name != "jalr":
+            return "fall", None
+        if words == ["x0", "0(x1)"]:
+            return "return", None
+        offset, base = re.match(r"(-?\d+)\((\w+)\)", words[1]).groups()
+        before = self.at.get(address - 4) if address >= entry + 4 else None
+        if before and before[1] == "auipc" and words[0] in ("x0", "x1"):
+            register, upper = before[2].split(",")
+            if register == base != "x0":
+                target = address - 4 + (int(upper, 16) << 12) + int(offset)
+                return "jump" if words[0] == "x0" else "call", target % 2**32 & ~1
+        return "unknown", None
+
     def function(self, entry):
         """Its words, the functions it calls, by how much it lowers x2, and its faults."""
-        end, todo, seen, calls, depth, faults = entry + self.sizes[entry], [entry], set(), set(), 0, []
+        end, todo, seen, targets = entry + self.sizes[entry], [entry], set(), set()
         while todo:
             address = todo.pop()
             if address in seen:
                 continue
             seen.add(address)
-            _, name, words = self.at[address]
-            words = words.split(",")
-            nexts = goes = [address + 4]
-            if name in BRANCHES:
-                nexts = goes = [address + 4, int(words[2], 16)]
-            elif name == "jal" and words[0] == "x0":
-                nexts = goes = [int(words[1], 16)]
-            elif name == "jal" and words[0] == "x1":
-                goes = []
-                if int(words[1], 16) in self.sizes:
-                    calls.add(int(words[1], 16))
-                else:
-                    faults.append((address, 1, "NoFunction"))
-            elif name in ("jal", "jalr"):
-                nexts = goes = []
-                if [name, *words] != ["jalr", "x0", "0(x1)"]:
-                    faults.append((address, 7, "Indirect"))
-            elif name in ("ecall", "ebreak"):
-                nexts = goes = []
-            elif name == "addi" and words[:2] == ["x2", "x2"]:
-                depth += max(0, -int(words[2]))
-            if any(not entry <= target < end for target in goes):
-                faults.append((address, 8, "Leaves"))
+            kind, target = self.flow(entry, address)
+            nexts = [address + 4] if kind in ("fall", "branch", "call") else []
+            if kind in ("branch", "jump"):
+                nexts.append(target)
+                targets.add(target)
             todo += [target for target in nexts if entry <= target < end]
+        calls, depth, faults = set(), 0, []
+        for address in sorted(seen):
+            _, name, words = self.at[address]
+            kind, target = self.flow(entry, address)
+            leaves = kind == "jump" and not entry <= target < end
+            if (kind == "call" or leaves) and target in self.sizes:
+                calls.add(target)
+            elif kind == "call":
+                faults.append((address, 1, "NoFunction"))
+            if kind == "unknown" or name == "jalr" and address in targets and kind != "return":
+                faults.append((address, 7, "Indirect"))
+            goes = {"fall": [address + 4], "branch": [address + 4, target], "jump": [target]}.get(kind, [])
+            if any(not entry <= other < end for other in goes) and not (leaves and target in self.sizes):
+                faults.append((address, 8, "Leaves"))
+            if name == "addi" and words.split(",")[:2] == ["x2", "x2"]:
+                depth += max(0, -int(words.split(",")[2]))
         return sorted((address, self.at[address][0]) for address in seen), calls, depth, faults
 
     def answers(self, entry):

@@ -233,14 +233,24 @@ F void halves(u16 *p, u v) { p[0] = v; p[1] = v >> 16; p[3] = p[0] + p[2]; }
 F u constants(u i) { return table[i & 7] + 7u * table[(i >> 3) & 7]; }
 F u power(u a, u n) { u r = 1; n &= 15; while (n) { if (n & 1) r *= a; a *= a; n >>= 1; } return r; }
 F u caller(u a, u b, const u *p) { return straight(a, b) + sum(p, b) + power(a, b); }
+F u tail(u a, u b) { return straight(b, a + 1); }
+F u either(u a, u b, const u *p) { if (a & 1) return sum(p, b); return caller(a, b, p); }
+F u last(u a, u b, const u *p) { a += straight(a, b); return either(a, b, p + (b & 1)); }
 F u recursion(u n) { return (n & 7) ? recursion((n & 7) - 1) + n : 1; }
 F void swap(u *p, u *q) { u t = *p; *p = *q; *q = t; }
 F void sort(u *p) { for (u i = 0; i < 5; i++) for (u j = 0; j + 1 < 6; j++) if (p[j] > p[j + 1]) swap(p + j, p + j + 1); }
 void _start(void) { for (;;); }
 """
 
-FLAGS = "-march=rv32im -mabi=ilp32 -ffreestanding -nostdlib -static -fno-optimize-sibling-calls -fno-jump-tables -msmall-data-limit=0".split()
+FLAGS = "-march=rv32im -mabi=ilp32 -ffreestanding -nostdlib -static -fno-jump-tables -msmall-data-limit=0".split()
 LEVELS = ("-O0", "-O1", "-O2", "-Os")
+# whether calls are by one JAL each or by pairs of instructions, and whether last calls become jumps
+KINDS = {
+    "jumps": ["-fno-optimize-sibling-calls"],
+    "pairs": ["-fno-optimize-sibling-calls", "-Wl,--no-relax"],
+    "tails": ["-foptimize-sibling-calls"],
+    "pairs-tails": ["-foptimize-sibling-calls", "-Wl,--no-relax"],
+}
 DATA, WORDS, HOME, STEPS = 0x40000, 128, 0x7FFF0000, 4000
 
 OPERATORS = dict(
@@ -250,11 +260,11 @@ OPERATORS = dict(
 )
 
 
-def compiled(room, level):
+def compiled(room, level, kind):
     """An executable, and the entries of its functions by name."""
-    file = room / f"file{level}"
+    file = room / f"file{level}-{kind}"
     (room / "source.c").write_text(SOURCE)
-    subprocess.run(["riscv64-unknown-elf-gcc", *FLAGS, level, "-Wl,-Ttext=0x10000", "source.c", "-o", file.name], cwd=room, check=True)
+    subprocess.run(["riscv64-unknown-elf-gcc", *FLAGS, level, *KINDS[kind], "-Wl,-Ttext=0x10000", "source.c", "-o", file.name], cwd=room, check=True)
     symbols = subprocess.run(["riscv64-unknown-elf-nm", file.name], cwd=room, check=True, capture_output=True, text=True).stdout
     rows = [line.split() for line in symbols.splitlines()]
     return file, {name: int(value, 16) for value, kind, name in sorted(rows) if kind in "tT" and name != "_start"}
@@ -437,7 +447,8 @@ class Rows:
 def main(seed=5, count=3):
     pick = random.Random(seed)
     with tempfile.TemporaryDirectory() as folder:
-        rows = [Rows(place, *compiled(Path(folder), level), pick, count) for place, level in enumerate(LEVELS)]
+        files = [compiled(Path(folder), level, kind) for kind in KINDS for level in LEVELS]
+        rows = [Rows(place, *file, pick, count) for place, file in enumerate(files)]
         answers = ask(PROBE, CRATES, "\n".join(line for row in rows for line in row.lines()) + "\n", [row.file for row in rows])
         graphs = graphs_of(answers)
         machines = [line.split()[1:] for line in answers if line.startswith("run ")]

@@ -63,7 +63,7 @@ module _ (p : Pair) (is : IsPair p) (m : Machine) (arguments : List ℤ)
     typed = typed;
     called = called;
     fixed = fixed_bytes m meets.machine (fixed_byte p.image) meets.fixed;
-    far = far_there p m a (read_register m 1) steps home;
+    far = far_there p m a (read_register m 1) steps home meets.return_aligned;
   }
 
   pub entry : IsEntry p m arguments a (source_of p (read_register m) m.memory arguments)

@@ -1,5 +1,5 @@
 -- What always holds of both graphs' runs from the entry.
-use Rattle.std.proofs.Common.{◌≡◌, ◌∙◌, ℕ, ◌-◌, ◌≤◌, ◌<◌, ◌^◌, ◌&&◌, ◌||◌, Bool, true, false, if◌then◌else◌, List, [], ◌∷◌, Option, Some, None, unwrap_or, refl, ap, subst, inl, inr, arith}
+use Rattle.std.proofs.Common.{◌≡◌, ◌∙◌, ℕ, ◌-◌, ◌%◌, ◌≤◌, ◌<◌, ◌^◌, ◌&&◌, ◌||◌, Bool, true, false, if◌then◌else◌, List, [], ◌∷◌, Option, Some, None, unwrap_or, refl, sym, ap, subst, inl, inr, arith}
 use Rattle.std.specs.List.{All}
 use Rattle.std.specs.FinMap.{get}
 use Rattle.std.proofs.lemmas.Bool.{cases_Bool, cases_lt, lt-ltb, le-ltb, eq-eqb, and_from, or_left, or_right}
@@ -15,7 +15,7 @@ use Rattle.path_cond_spec.specs.Passages.{holds}
 use Rattle.elf_read_spec.specs.Image.{Image, fixed_byte}
 use Rattle.graph_core_spec.specs.Graph.{Node, Graphs, node_at}
 use Rattle.graph_core_spec.specs.Variables.{own_bindings}
-use Rattle.decompile_laws.specs.Together.{Numbering, Corresponds, corresponds, IsOver, returned, failed, StepTogether, ReturnTogether, run}
+use Rattle.decompile_laws.specs.Together.{Numbering, Corresponds, corresponds, at_tail_landing, at_home, StepTogether, ReturnTogether, run}
 use Rattle.graph_core_spec.specs.Run.{State, Waiting, Running, Returned, Failed, has_failed, has_returned, is_shared, system_of}
 use Rattle.graph_core_spec.specs.Fixed.{has_byte, holds_byte, AlwaysHoldsFixed}
 use Rattle.decompile_spec.specs.State.{Alike, entry_register}
@@ -80,15 +80,17 @@ values_of_state : State → Assignment → Assignment
 values_of_state (Running g n values below) other = values
 values_of_state s other = other
 
-alike_there : (image : Image) (entry : ℕ) (n : Numbering) (home : ℕ) (m : Machine) (s : State) → Corresponds image entry n home m s
+alike_there : (image : Image) (entry : ℕ) (n : Numbering) (home : ℕ) (m : Machine) (begun : ℕ) (s : State) → Corresponds image entry n home m begun s
     → (g node : ℕ) (values : Assignment) (below : List Waiting) → s ≡ Running g node values below → Alike m values
 unfolding values_of_state
-alike_there image entry n home m _ (corresponds function size at back v waiting reaches size_is here alike began are) g node values below e =
+alike_there image entry n home m _ _ (corresponds function size at begun back v waiting reaches size_is here alike began are) g node values below e =
     subst (Alike m) (ap (λ (s : State). values_of_state s v) e) alike
+alike_there image entry n home m _ _ (at_tail_landing graph at v waiting lands alike rest) g node values below e =
+    subst (Alike m) (ap (λ (s : State). values_of_state s v) e) alike
+alike_there image entry n home m _ _ (at_home v there alike) g node values below e = absurd (let bad : true ≡ false = ap has_returned e in cc)
 
-not_over : (s : State) → IsOver s → (g node : ℕ) (values : Assignment) (below : List Waiting) → s ≡ Running g node values below → ⊥
-not_over _ (returned v) g node values below e = let bad : true ≡ false = ap has_returned e in cc
-not_over _ failed g node values below e = let bad : true ≡ false = ap has_failed e in cc
+not_failed : (s : State) → s ≡ Failed → (g node : ℕ) (values : Assignment) (below : List Waiting) → s ≡ Running g node values below → ⊥
+not_failed s failed g node values below e = let bad : true ≡ false = sym (ap has_failed failed) ∙ ap has_failed e in cc
 
 module _ (p : Pair) (had : ℕ → ℕ) (a : Assignment)
     (never : (r n : ℕ) (node : Node) → node_at p.graphs (p.numbering.graph_number p.entry) n ≡ Some node → Never (entry_register r) (own_bindings node))
@@ -119,7 +121,7 @@ module _ (p : Pair) (had : ℕ → ℕ) (a : Assignment)
       (pass_all (λ (line : Term). holds there line) (entry_zone called) (zone_holds p had room below there (entries_there k s e live))))
 
 module _ (p : Pair) (m : Machine) (a : Assignment) (stop : ℕ) (steps : StepTogether p.image p.entry p.numbering p.graphs m a stop)
-    (home : ReturnTogether p.image p.entry p.numbering p.graphs m a) where
+    (home : ReturnTogether p.image p.entry p.numbering p.graphs m a) (aligned : read_register m 1 % 4 ≡ 0) where
   byte_there : (now : Machine) (values : Assignment) → IsMachine now → Alike now values → (at : ℕ) → has_byte (values binary_memory) at (bounded nothing at) ≡ true
   byte_there now values is alike at = ap (λ (v : Value). has_byte v at (bounded nothing at)) alike.bytes ∙ far_byte now is at
 
@@ -131,9 +133,12 @@ module _ (p : Pair) (m : Machine) (a : Assignment) (stop : ℕ) (steps : StepTog
       by Failed e = refl
       by (Returned values) e = let back = home.graphs_return k values e in byte_there back.2.final values back.2.sound.is_machine back.2.alike at
       by (Running g node values below) e = elim (steps.graphs_lead k) [
-        | inl over ↦ absurd (not_over _ over g node values below e)
-        | inr there ↦ byte_there there.2.now values there.2.sound.is_machine
-            (alike_there p.image p.entry p.numbering (read_register m 1) there.2.now _ there.2.alike g node values below e) at
+        | inl failed ↦ absurd (not_failed _ failed g node values below e)
+        | inr more ↦ elim more [
+          | inl returning ↦ absurd (returning.0 aligned)
+          | inr there ↦ byte_there there.2.now values there.2.sound.is_machine
+              (alike_there p.image p.entry p.numbering (read_register m 1) there.2.now there.2.begun _ there.2.alike g node values below e) at
+        ]
       ]
 
 -- ---- the source

@@ -1,17 +1,16 @@
 -- What is reached from listed functions has a graph: it has no fault, all that it calls is reached, and it isn't too large.
-use Rattle.std.proofs.Common.{◌≡◌, ◌∙◌, ℕ, ◌+◌, ◌-◌, ◌%◌, ◌^◌, ◌==◌, ◌&&◌, not, Bool, true, false, List, All, get_or, Some, None, refl, sym, ap₂, subst, arith}
-use Rattle.std.specs.Prelude.{Contains, nat_le, nat_lt, if◌then◌else◌}
+use Rattle.std.proofs.Common.{◌≡◌, ◌⊎◌, ◌∙◌, ℕ, ◌+◌, ◌-◌, ◌%◌, ◌^◌, ◌==◌, ◌&&◌, not, Bool, true, false, List, All, get_or, Some, None, refl, sym, ap₂, subst, inl, inr, arith}
+use Rattle.std.specs.Prelude.{Contains, IsSome, nat_le, nat_lt, if◌then◌else◌}
 use Rattle.std.proofs.lemmas.Bool.{le-leb, lt-ltb}
 use Rattle.std.proofs.lemmas.List.Elements.{All-contains, Contains-get_or}
-use Rattle.rv_instr.specs.declared.Instr.{Instr}
 use Rattle.elf_read_spec.specs.Image.{Image, size_at}
 use Rattle.elf_read_spec.specs.declared.SymbolValues.TheVariants.{One}
-use Rattle.code_reach_spec.specs.Code.{CallsOn, Flow, Falls, Branches, Jumps, Calls, Links, Returns, Stops, InRange, IsReachable, call, further, flow_at, flow_of, instr_at}
-use Rattle.code_reach_spec.specs.Faults.{HasNoFault, ReachesNoFault, goes_to}
-use Rattle.code_reach_spec.proofs.Direct.{direct-reaches, each_without}
+use Rattle.code_reach_spec.specs.Code.{CallsOn, Flow, Falls, Branches, Jumps, Calls, Links, Returns, Stops, InRange, IsReachable, call, tail, further, flow_at}
+use Rattle.code_reach_spec.specs.Faults.{HasNoFault, ReachesNoFault}
+use Rattle.code_reach_spec.proofs.First.{each_without}
 use Rattle.decompile_spec.specs.Blocks.{callee_of, leaves_range}
 use Rattle.decompile_spec.specs.CodeGraph.{IsCall}
-use Rattle.decompile_laws.proofs.Reached.{calls_function, flow_alone, has_instruction, stays_inside}
+use Rattle.decompile_laws.proofs.Reached.{calls_function, jumps_inside}
 use Rattle.decompile_laws.specs.Layout.{numbers_by}
 use Rattle.decompile.specs.Answer.{first_in, number_in}
 use Rattle.decompile.specs.Errors.{IsGraphError}
@@ -45,29 +44,27 @@ not_chosen true target callee off e = absurd (cc)
 not_chosen false target callee off e = cc
 
 module _ (image : Image) (entry size : ℕ) (sound : HasNoFault image entry size) (address callee : ℕ) (reached : IsReachable image entry size address) where
-  by_flow : (i : Instr) (flow : Flow) → instr_at image address ≡ Some i → flow_at image entry address ≡ Some flow → flow ≡ flow_of None address i
-      → callee_of entry size flow ≡ Some callee → CallsOn image entry size callee
+  by_jump : (target : ℕ) → flow_at image entry address ≡ Some (Jumps target) → InRange entry size target ⊎ ((InRange entry size target → ⊥) × IsSome (size_at image target))
+      → (if leaves_range entry size target then Some target else None) ≡ Some callee → CallsOn image entry size callee
+  by_jump target is (inl inside) c = absurd (not_chosen (leaves_range entry size target) target callee (stays entry size target inside) c)
+  by_jump target is (inr out) c =
+      subst (λ (t : ℕ). CallsOn image entry size t) (chosen (leaves_range entry size target) target callee c) (tail address target reached is out.0 out.1)
+
+  by_flow : (flow : Flow) → flow_at image entry address ≡ Some flow → callee_of entry size flow ≡ Some callee → CallsOn image entry size callee
   unfolding callee_of
-  by_flow i (Calls target) there is alone c =
+  by_flow (Calls target) is c =
       subst (λ (t : ℕ). CallsOn image entry size t) (chosen (target % 4 == 0) target callee c)
-      (call address target reached is (calls_function image entry size address sound reached i target there (sym alone)))
-  by_flow i (Jumps target) there is alone c =
-      let goes : Contains (goes_to address (Jumps target)) target = (0, omega arith, refl) in
-      let inside : InRange entry size target =
-      stays_inside image entry size address sound reached i target there (subst (λ (f : Flow). Contains (goes_to address f) target) alone goes) in
-      absurd (not_chosen (leaves_range entry size target) target callee (stays entry size target inside) c)
-  by_flow i Falls there is alone c = absurd (cc)
-  by_flow i (Branches target) there is alone c = absurd (cc)
-  by_flow i (Links target) there is alone c = absurd (cc)
-  by_flow i Returns there is alone c = absurd (cc)
-  by_flow i Stops there is alone c = absurd (cc)
+      (call address target reached is (calls_function image entry size address sound reached target is))
+  by_flow (Jumps target) is c = by_jump target is (jumps_inside image entry size address sound reached target is) c
+  by_flow Falls is c = absurd (cc)
+  by_flow (Branches target) is c = absurd (cc)
+  by_flow (Links target) is c = absurd (cc)
+  by_flow Returns is c = absurd (cc)
+  by_flow Stops is c = absurd (cc)
 
 called_on : (image : Image) (entry size : ℕ) → HasNoFault image entry size → (address callee : ℕ) → IsCall image entry size address callee
     → CallsOn image entry size callee
-called_on image entry size sound address callee is =
-    let i = has_instruction image entry size address sound is.reached in
-    let alone = flow_alone image entry size address sound is.reached i.0 is.flow i.1 is.flow_is in
-    by_flow image entry size sound address callee is.reached i.0 is.flow i.1 is.flow_is alone.0 is.calls
+called_on image entry size sound address callee is = by_flow image entry size sound address callee is.reached is.flow is.flow_is is.calls
 
 -- ---- the entries of pairs
 
@@ -87,7 +84,7 @@ module _ (image : Image) (unit : Typed) (list : List (List ℕ)) (pairs : outcom
           subst (λ (e : ℕ). ReachesNoFault image e) same code.1.sound
 
       no_fault : (size : ℕ) → size_at image entry ≡ Some size → HasNoFault image entry size
-      no_fault size size_is = each_without image is.from entry size code_sound (direct-reaches image is.from entry code_sound is.reached) size_is
+      no_fault size size_is = each_without image is.from entry size code_sound is.reached size_is
 
       closed : (size address callee : ℕ) → size_at image entry ≡ Some size → IsCall image entry size address callee → Contains pairs.entries callee
       closed size address callee size_is calls =

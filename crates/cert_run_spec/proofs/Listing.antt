@@ -11,7 +11,7 @@ use Rattle.graph_core_spec.specs.Graph.{Graph, Node}
 use Rattle.decompile_spec.specs.Blocks.{Setting}
 use Rattle.decompile_spec.specs.CodeGraph.{IsCodeGraph}
 use Rattle.decompile_laws.specs.Layout.{Item, AreItems}
-use Rattle.decompile.specs.Answer.{AreFirsts, setting}
+use Rattle.decompile.specs.Answer.{AreFirsts, setting, counting}
 use Rattle.decompile.specs.Counts.{numbered}
 use Rattle.c_types_spec.specs.Core.{Typed}
 use Rattle.pair_setup_spec.specs.SourceReach.{body_of}
@@ -96,7 +96,9 @@ one_firsts image entry one two x y =
     let size_is = sizes_are image entry y.size x.size y.size_is x.size_is in
     let items_are = one_items image entry x.size x.items y.items x.items_are (subst (λ n. AreItems image entry n y.items) size_is y.items_are) in
     let runs_are = one_runs image x.runs y.runs x.runs_are y.runs_are in
-    x.numbers ∙ (ap (λ (runs : List Run). numbered (length runs) 1 x.items) runs_are ∙ (ap (λ (items : List Item). numbered (length y.runs) 1 items) items_are ∙ sym y.numbers))
+    x.numbers ∙ (ap (λ (runs : List Run). numbered (counting entry x.size (length runs)) 1 x.items) runs_are
+    ∙ (ap (λ (items : List Item). numbered (counting entry x.size (length y.runs)) 1 items) items_are
+    ∙ (ap (λ (n : ℕ). numbered (counting entry n (length y.runs)) 1 y.items) (sym size_is) ∙ sym y.numbers)))
 
 pub one_side : (image : Image) (entries : List ℕ) (entry : ℕ) (one two : CodeSide) → IsSide image entries entry one → IsSide image entries entry two → one ≡ two
 one_side image entries entry one two x y =

@@ -6,8 +6,7 @@ use Rattle.std.proofs.lemmas.List.{get_or_default}
 use Rattle.std.proofs.lemmas.List.Elements.{Contains-get_or}
 use Rattle.elf_read_spec.specs.Image.{Image}
 use Rattle.code_reach_spec.specs.declared.CodeKind.{CodeKind}
-use Rattle.code_reach_spec.specs.Code.{IsGreatest, IsRangeFault}
-use Rattle.code_reach.specs.Growth.{AreReached}
+use Rattle.code_reach_spec.specs.Code.{IsGreatest, IsRangeFault, AreReachable}
 use Rattle.code_reach.specs.Surveys.{CallsOut}
 use Rattle.code_reach.specs.Stacks.{Known, known_or_zero, AreCalls, IsDeepest}
 use Rattle.code_reach.proofs.Growing.{none_contained}
@@ -69,8 +68,8 @@ greatest-of-calls image entry known calls deepest are is = record { above = λ t
     at (inr (k, below, e)) = inr (get_or calls k 0, (are (get_or calls k 0)).0 (Contains-get_or calls k 0 below), e)
 
 -- a function without code reaches nothing
-pub reached-none : (image : Image) (entry size : ℕ) (kind : CodeKind) (keys : List ℕ) → IsRangeFault image entry size kind → keys ≡ [] → AreReached image entry size keys
-reached-none image entry size kind keys fault e = subst (AreReached image entry size) (sym e) (record {
+pub reached-none : (image : Image) (entry size : ℕ) (kind : CodeKind) (keys : List ℕ) → IsRangeFault image entry size kind → keys ≡ [] → AreReachable image entry size keys
+reached-none image entry size kind keys fault e = subst (AreReachable image entry size) (sym e) (record {
   rising = λ k below. absurd (omega (arith, below));
   exactly = λ a. (
     λ among. absurd (none_contained a among),
@@ -78,9 +77,9 @@ reached-none image entry size kind keys fault e = subst (AreReached image entry 
   );
 })
 
-pub words-whole : (image : Image) (entry size : ℕ) (places : List ℕ) → AreReached image entry size places → All (λ address. address + 4 ≤ 2 ^ 32) places
+pub words-whole : (image : Image) (entry size : ℕ) (places : List ℕ) → AreReachable image entry size places → All (λ address. address + 4 ≤ 2 ^ 32) places
 words-whole image entry size places are = λ k d below. (place image entry size (get_or places k d) ((are.exactly (get_or places k d)).0 (Contains-get_or places k d below))).whole
 
-pub words-few : (image : Image) (entry size : ℕ) (places : List ℕ) → AreReached image entry size places → length places ≤ 2 ^ 32
+pub words-few : (image : Image) (entry size : ℕ) (places : List ℕ) → AreReachable image entry size places → length places ≤ 2 ^ 32
 words-few image entry size places are =
     places_few places are.rising (λ a among. let there = place image entry size a ((are.exactly a).0 among) in omega (arith, there.whole))

@@ -1,16 +1,16 @@
 -- How lists grow by items that have a property.
-use Rattle.std.proofs.Common.{◌≡◌, ◌⊎◌, ◌<◌, ◌%◌, ℕ, Bool, true, false, cond, List, [], ◌∷◌, ◌++◌, length, get_or, refl, sym, ◌∙◌, ap, subst, inl, inr, append_assoc, arith, eqb-true, eq-eqb}
+use Rattle.std.proofs.Common.{◌≡◌, ◌⊎◌, ◌+◌, ◌<◌, ◌≤◌, ◌%◌, ℕ, Bool, true, false, cond, List, [], ◌∷◌, ◌++◌, length, get_or, refl, sym, ◌∙◌, ap, subst, inl, inr, append_assoc, arith, eqb-true, eq-eqb}
 use Rattle.std.specs.Prelude.{Some, None, Contains, nat_eq, ◌==◌}
 use Rattle.std.specs.List.{list_any}
-use Rattle.std.proofs.lemmas.List.{append-nil}
+use Rattle.std.proofs.lemmas.List.{append-nil, get_or_append_left}
 use Rattle.std.proofs.lemmas.List.Elements.{Contains-append_left, Contains-append_right, Contains-append_cases, Contains-push}
 use Rattle.indexmap.specs.IndexSet.{insert_key}
 use Rattle.indexmap.proofs.CallerLemmas.{Contains-list_any}
 use Rattle.elf_read_spec.specs.Image.{Image}
-use Rattle.code_reach_spec.specs.Code.{InRange, aligned, Flow, nexts_of}
-use Rattle.code_reach_spec.specs.Faults.{direct_flow}
-use Rattle.code_reach.specs.Growth.{Grows, IsInside, GoesTo}
-use Rattle.code_reach.specs.Flows.{in_range}
+use Rattle.code_reach_spec.specs.Code.{InRange, aligned, Flow, nexts_of, flow_at}
+use Rattle.code_reach_spec.specs.Faults.{targets_of}
+use Rattle.code_reach_spec.specs.FaultAt.{in_range}
+use Rattle.code_reach.specs.Growth.{Grows, FromFirst, IsInside, GoesTo, HasTarget}
 
 pub none_contained : (t : ℕ) → Contains [] t → ⊥
 none_contained t (k, below, here) = omega (arith, below)
@@ -56,6 +56,39 @@ grows-then P Q xs ys zs g h = record {
   all = λ t either. elim either [ inl p ↦ subst (λ l. Contains l t) (sym h.grown) (Contains-append_left ys h.more t (g.all t p)) | inr q ↦ h.all t q ];
   only = λ t among. elim (Contains-append_cases g.more h.more t among) [ inl first ↦ inl (g.only t first) | inr second ↦ inr (h.only t second) ];
 }
+
+-- ---- what the first so many of some items are related to
+
+module _ (P : ℕ → ℕ → Type 0) (items : List ℕ) where
+  pub first-none : (xs : List ℕ) → Grows (FromFirst P items 0) xs xs
+  first-none xs = grows-none (FromFirst P items 0) xs (λ t f. omega (arith, f.below))
+
+  pub first-more : (index here : ℕ) → here ≡ get_or items index 0 → (xs ys zs : List ℕ) → Grows (FromFirst P items index) xs ys → Grows (P here) ys zs
+      → Grows (FromFirst P items (index + 1)) xs zs
+  first-more index here is xs ys zs g h =
+      grows-as (λ t. FromFirst P items index t ⊎ P here t) (FromFirst P items (index + 1)) xs zs
+      (λ t either. elim either [
+        | inl f ↦ record { index = f.index; below = omega (arith, f.below); there = f.there }
+        | inr p ↦ record { index = index; below = omega arith; there = subst (λ a. P a t) is p }
+      ])
+      (λ t f. elim (split f.index f.below) [
+        | inl before ↦ inl (record { index = f.index; below = before; there = f.there })
+        | inr e ↦ inr (subst (λ a. P a t) (ap (λ i. get_or items i 0) e ∙ sym is) f.there)
+      ])
+      (grows-then (FromFirst P items index) (P here) xs ys zs g h)
+    where
+      split : (j : ℕ) → j < index + 1 → (j < index) ⊎ (j ≡ index)
+      split j below = grind (arith, below)
+
+  -- more items come after them
+  pub first-of-more : (count : ℕ) (more xs ys : List ℕ) → count ≤ length items → Grows (FromFirst P items count) xs ys → Grows (FromFirst P (items ++ more) count) xs ys
+  first-of-more count more xs ys few g =
+      grows-as (FromFirst P items count) (FromFirst P (items ++ more) count) xs ys
+      (λ t f. record { index = f.index; below = f.below; there = subst (λ a. P a t) (sym (same f.index (omega (arith, f.below, few)))) f.there })
+      (λ t f. record { index = f.index; below = f.below; there = subst (λ a. P a t) (same f.index (omega (arith, f.below, few))) f.there }) g
+    where
+      same : (j : ℕ) → j < length items → get_or (items ++ more) j 0 ≡ get_or items j 0
+      same j below = get_or_append_left items more 0 j below
 
 -- ---- tests
 
@@ -109,12 +142,33 @@ inside-append entry size ts us xs ys zs g h =
 
 -- ---- where control goes
 
-pub leads-some : (image : Image) (entry size address : ℕ) (flow : Flow) → direct_flow image address ≡ Some flow → (xs ys : List ℕ)
+pub leads-some : (image : Image) (entry size address : ℕ) (flow : Flow) → flow_at image entry address ≡ Some flow → (xs ys : List ℕ)
     → Grows (IsInside entry size (nexts_of address flow)) xs ys → Grows (GoesTo image entry size address) xs ys
 leads-some image entry size address flow is xs ys g =
     grows-as (IsInside entry size (nexts_of address flow)) (GoesTo image entry size address) xs ys
     (λ t i. record { flow = flow; flow_is = is; next = i })
     (λ t l. let same : l.flow ≡ flow = cc in subst (λ f. IsInside entry size (nexts_of address f) t) same l.next) g
 
-pub leads-none : (image : Image) (entry size address : ℕ) → direct_flow image address ≡ None → (xs : List ℕ) → Grows (GoesTo image entry size address) xs xs
+pub leads-none : (image : Image) (entry size address : ℕ) → flow_at image entry address ≡ None → (xs : List ℕ) → Grows (GoesTo image entry size address) xs xs
 leads-none image entry size address is xs = grows-none (GoesTo image entry size address) xs (λ t l. let flow_is = l.flow_is in cc)
+
+-- ---- the targets of an instruction
+
+pub targets-some : (image : Image) (entry address : ℕ) (flow : Flow) → flow_at image entry address ≡ Some flow → (xs ys : List ℕ)
+    → Grows (Contains (targets_of flow)) xs ys → Grows (HasTarget image entry address) xs ys
+targets-some image entry address flow is xs ys g =
+    grows-as (Contains (targets_of flow)) (HasTarget image entry address) xs ys
+    (λ t among. record { flow = flow; flow_is = is; among = among })
+    (λ t h. let same : h.flow ≡ flow = cc in subst (λ f. Contains (targets_of f) t) same h.among) g
+
+pub targets-none : (image : Image) (entry address : ℕ) → flow_at image entry address ≡ None → (xs : List ℕ) → Grows (HasTarget image entry address) xs xs
+targets-none image entry address is xs = grows-none (HasTarget image entry address) xs (λ t h. let flow_is = h.flow_is in cc)
+
+pub target-one : (target : ℕ) (xs ys : List ℕ) → Grows (λ t. t ≡ target) xs ys → Grows (Contains (target ∷ [])) xs ys
+target-one target xs ys g =
+    grows-as (λ t. t ≡ target) (Contains (target ∷ [])) xs ys
+    (λ t e. subst (λ z. Contains (target ∷ []) z) (sym e) (contained target))
+    (λ t among. only_contained target t among) g
+
+pub target-none : (xs : List ℕ) → Grows (Contains []) xs xs
+target-none xs = grows-none (Contains []) xs (λ t among. none_contained t among)

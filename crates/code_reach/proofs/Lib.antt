@@ -2,9 +2,9 @@ mod Ranges
 mod Growing
 mod Walks
 mod Places
-mod Wrong
 mod Listed
 mod Firsts
+pub mod Called
 mod Visited
 mod Surveyed
 mod Overlaps

@@ -12,8 +12,8 @@ use Rattle.std.proofs.lemmas.Map.Keys.{IsStrictlyIncreasing-from_distinct, below
 use Rattle.elf_read_spec.specs.Image.{Image, size_at}
 use Rattle.code_reach_spec.specs.declared.CodeKind.{CodeKind}
 use Rattle.code_reach_spec.specs.declared.CodeKind.TheVariants.{Overlap}
-use Rattle.code_reach_spec.specs.Faults.{RangesMeet, ReachesDirectly, IsReachFault, of_function, overlap, ReachesNoFault}
-use Rattle.code_reach_spec.proofs.Direct.{reaches-direct, direct-reaches}
+use Rattle.code_reach_spec.specs.Code.{Reaches}
+use Rattle.code_reach_spec.specs.Faults.{RangesMeet, IsReachFault, of_function, overlap, ReachesNoFault}
 use Rattle.code_reach.specs.Surveys.{AnyHasFault, OverlapsAt, IsOverlap, IsFirstOf, AreEntries, earlier}
 use Rattle.code_reach.specs.Found.{IsReach}
 use Rattle.code_reach.specs.declared.faults.CodeFault.{CodeFault}
@@ -39,13 +39,13 @@ module _ (image : Image) (entry : ℕ) where
       among : index < length items
       there : get_or items index 0 ≡ other
 
-    place-in : (other : ℕ) → ReachesDirectly image entry other → PlaceOf other
+    place-in : (other : ℕ) → Reaches image entry other → PlaceOf other
     place-in other reached = at ((are.exactly other).1 reached)
       where
         at : Contains items other → PlaceOf other
         at (k, below, here) = record { index = k; among = below; there = sym (get_or_default items k other 0 below) ∙ here }
 
-    reached-at : (k : ℕ) → k < length items → ReachesDirectly image entry (get_or items k 0)
+    reached-at : (k : ℕ) → k < length items → Reaches image entry (get_or items k 0)
     reached-at k below = (are.exactly (get_or items k 0)).0 (Contains-get_or items k 0 below)
 
     before-in : (i j : ℕ) → i < length items → get_or items i 0 < get_or items j 0 → (i < j) ⊎ (j ≤ i) → i < j
@@ -98,11 +98,4 @@ module _ (image : Image) (entry : ℕ) where
         (first-earlier (AnyHasFault image entry) (IsOverlap image items) first shared functions overlaps)
 
     pub found-reach : ReachesNoFault image entry → IsReach image entry items
-    found-reach sound = record {
-      sound = sound;
-      rising = rising;
-      exactly = λ other. (
-        λ among. reaches-direct image entry other sound ((are.exactly other).0 among),
-        λ reached. (are.exactly other).1 (direct-reaches image entry other sound reached),
-      );
-    }
+    found-reach sound = record { sound = sound; rising = rising; exactly = are.exactly }

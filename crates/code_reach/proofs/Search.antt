@@ -6,10 +6,8 @@ use Rattle.std.proofs.lemmas.List.{append-nil, reverse-append, length-append, le
 use Rattle.std.proofs.lemmas.List.Folds.{list_any_at}
 use Rattle.std.proofs.lemmas.List.Elements.{Contains-append_cases, Contains-append_right}
 use Rattle.elf_read_spec.specs.Image.{Image, size_at}
-use Rattle.code_reach_spec.specs.Code.{CallsOn, Reaches, IsStack, IsCyclic, deep}
-use Rattle.code_reach_spec.specs.Code as code
-use Rattle.code_reach_spec.specs.Faults.{CallsDirectly, ReachesDirectly, itself, further, ReachesNoFault, HasNoFault}
-use Rattle.code_reach_spec.proofs.Direct.{reachable-direct, direct-reachable, calls-direct, direct-calls, reaches-direct, each_without}
+use Rattle.code_reach_spec.specs.Code.{CallsOn, Reaches, itself, further, IsStack, IsCyclic, deep}
+use Rattle.code_reach_spec.specs.Faults.{ReachesNoFault}
 use Rattle.code_reach.specs.Growth.{Grows}
 use Rattle.code_reach.specs.Surveys.{CallsOut}
 use Rattle.code_reach.specs.Stacks.{Known, known_or_zero, AreCalls, IsTotal, IsEntered}
@@ -74,22 +72,22 @@ module _ (image : Image) (root : ℕ) where
 
   -- ---- what is reached
 
-  under-reached : (entry : ℕ) (o : Option ℕ) → ((caller : ℕ) → o ≡ Some caller → ReachesDirectly image root caller)
-      → MatchOption o (entry ≡ root) (λ caller. CallsOut image caller entry) → ReachesDirectly image root entry
-  under-reached entry None top e = subst (ReachesDirectly image root) (sym e) itself
+  under-reached : (entry : ℕ) (o : Option ℕ) → ((caller : ℕ) → o ≡ Some caller → Reaches image root caller)
+      → MatchOption o (entry ≡ root) (λ caller. CallsOut image caller entry) → Reaches image root entry
+  under-reached entry None top e = subst (Reaches image root) (sym e) itself
   under-reached entry (Some caller) top out = further caller out.size entry (top caller refl) out.size_is out.calls
 
-  reached-top : (tasks : List Task) → AllUnder tasks → (caller : ℕ) → below tasks ≡ Some caller → ReachesDirectly image root caller
+  reached-top : (tasks : List Task) → AllUnder tasks → (caller : ℕ) → below tasks ≡ Some caller → Reaches image root caller
   reached-top [] under caller e = absurd (cc)
   reached-top (Enter entry ∷ tasks) under caller e = reached-top tasks under.1 caller e
   reached-top (Leave entry ∷ tasks) under caller e =
       let same : entry ≡ caller = cc in
-      subst (ReachesDirectly image root) same (under-reached entry (below tasks) (λ c is. reached-top tasks under.1 c is) under.0)
+      subst (Reaches image root) same (under-reached entry (below tasks) (λ c is. reached-top tasks under.1 c is) under.0)
 
-  reached-task : (task : Task) (tasks : List Task) → AllUnder (task ∷ tasks) → ReachesDirectly image root (entry_of task)
+  reached-task : (task : Task) (tasks : List Task) → AllUnder (task ∷ tasks) → Reaches image root (entry_of task)
   reached-task task tasks under = under-reached (entry_of task) (below tasks) (reached-top tasks under.1) under.0
 
-  pub reached-sized : (other : ℕ) → IsSome (size_at image root) → ReachesDirectly image root other → IsSome (size_at image other)
+  pub reached-sized : (other : ℕ) → IsSome (size_at image root) → Reaches image root other → IsSome (size_at image other)
   reached-sized _ some itself = some
   reached-sized other some (further middle size _ reached is calls) = called-sized image middle size other calls
 
@@ -161,130 +159,108 @@ module _ (image : Image) (root : ℕ) where
 
   -- ---- a function is left
 
-  module _ (sound : ReachesNoFault image root) where
-    total-stack : (known : Known) (entry total : ℕ) → ReachesDirectly image root entry → IsTotal image entry known total
-        → ((t : ℕ) → CallsOut image entry t → IsKnown known t) → ((t stack : ℕ) → known t ≡ Some stack → IsStack image t stack) → IsStack image entry total
-    total-stack known entry total reached is all stacks =
-        subst (IsStack image entry) (sym is.total_is)
-        (deep entry is.size is.deepest is.places (known_or_zero known) is.size_is
-        (record {
-          rising = is.places_are.rising;
-          exactly = λ a. (
-            λ among. reachable-direct image entry is.size a without ((is.places_are.exactly a).0 among),
-            λ at. (is.places_are.exactly a).1 (direct-reachable image entry is.size a without at),
-          );
-        })
-        (λ t on. stack-of t (all t (out t on)))
-        (record { above = λ t on. is.greatest.above t (out t on); reached = greatest is.greatest.reached }))
-      where
-        without : HasNoFault image entry is.size
-        without = each_without image root entry is.size sound reached is.size_is
+  total-stack : (known : Known) (entry total : ℕ) → IsTotal image entry known total
+      → ((t : ℕ) → CallsOut image entry t → IsKnown known t) → ((t stack : ℕ) → known t ≡ Some stack → IsStack image t stack) → IsStack image entry total
+  total-stack known entry total is all stacks =
+      subst (IsStack image entry) (sym is.total_is)
+      (deep entry is.size is.deepest is.places (known_or_zero known) is.size_is is.places_are
+      (λ t on. stack-of t (all t (out t on)))
+      (record { above = λ t on. is.greatest.above t (out t on); reached = greatest is.greatest.reached }))
+    where
+      out : (t : ℕ) → CallsOn image entry is.size t → CallsOut image entry t
+      out t on = record { size = is.size; size_is = is.size_is; calls = on }
 
-        out : (t : ℕ) → CallsOn image entry is.size t → CallsOut image entry t
-        out t on = record { size = is.size; size_is = is.size_is; calls = direct-calls image entry is.size t without on }
+      stack-of : (t : ℕ) → IsKnown known t → IsStack image t (known_or_zero known t)
+      stack-of t (stack, e) = subst (IsStack image t) (sym (ap (λ o. unwrap_or o 0) e)) (stacks t stack e)
 
-        on : (t : ℕ) (other : ℕ) → other ≡ is.size → CallsDirectly image entry other t → CallsOn image entry is.size t
-        on t other e calls = calls-direct image entry is.size t without (subst (λ s. CallsDirectly image entry s t) e calls)
+      same_size : (other : ℕ) → size_at image entry ≡ Some other → other ≡ is.size
+      same_size other e = let own = is.size_is in cc
 
-        stack-of : (t : ℕ) → IsKnown known t → IsStack image t (known_or_zero known t)
-        stack-of t (stack, e) = subst (IsStack image t) (sym (ap (λ o. unwrap_or o 0) e)) (stacks t stack e)
+      on : (t : ℕ) → CallsOut image entry t → CallsOn image entry is.size t
+      on t c = subst (λ s. CallsOn image entry s t) (same_size c.size c.size_is) c.calls
 
-        same_size : (other : ℕ) → size_at image entry ≡ Some other → other ≡ is.size
-        same_size other e = let own = is.size_is in cc
+      greatest : (is.deepest ≡ 0) ⊎ ((t : ℕ) × CallsOut image entry t × (known_or_zero known t ≡ is.deepest))
+          → (is.deepest ≡ 0) ⊎ ((t : ℕ) × CallsOn image entry is.size t × (known_or_zero known t ≡ is.deepest))
+      greatest (inl none) = inl none
+      greatest (inr (t, c, e)) = inr (t, on t c, e)
 
-        greatest : (is.deepest ≡ 0) ⊎ ((t : ℕ) × CallsOut image entry t × (known_or_zero known t ≡ is.deepest))
-            → (is.deepest ≡ 0) ⊎ ((t : ℕ) × CallsOn image entry is.size t × (known_or_zero known t ≡ is.deepest))
-        greatest (inl none) = inl none
-        greatest (inr (t, c, e)) = inr (t, on t c.size (same_size c.size c.size_is) c.calls, e)
+  -- its stack is far below 2 ^ 64
+  pub total-short : ReachesNoFault image root → (known : Known) (entered : List ℕ) (entry total : ℕ) (tasks : List Task) → IsSearch known entered (Leave entry ∷ tasks)
+      → IsTotal image entry known total → total < 2 ^ 64
+  total-short sound known entered entry total tasks s is =
+      let reached = reached-task (Leave entry) tasks s.under in
+      omega (
+        arith,
+        shallow image root sound entry total reached (total-stack known entry total is s.covered.0 s.stacks),
+      )
 
-    -- its stack is far below 2 ^ 64
-    pub total-short : (known : Known) (entered : List ℕ) (entry total : ℕ) (tasks : List Task) → IsSearch known entered (Leave entry ∷ tasks)
-        → IsTotal image entry known total → total < 2 ^ 64
-    total-short known entered entry total tasks s is =
-        let reached = reached-task (Leave entry) tasks s.under in
-        omega (
-          arith,
-          shallow image root sound entry total (reaches-direct image root entry sound reached)
-              (total-stack known entry total reached is s.covered.0 s.stacks),
-        )
+  pub search-leave : (known new : Known) (entered : List ℕ) (entry total : ℕ) (tasks : List Task) → IsSearch known entered (Leave entry ∷ tasks)
+      → IsTotal image entry known total → ((t : ℕ) → new t ≡ cond (nat_eq entry t) (Some total) (known t)) → IsSearch new entered tasks
+  search-leave known new entered entry total tasks s is updates = record {
+    under = s.under.1;
+    covered = covered-more tasks (λ t. IsKnown known t ⊎ (t ≡ entry)) (IsKnown new) (λ t q. elim q [ inl k ↦ kept t k | inr e ↦ now t e ]) s.covered.1;
+    open_are = λ t among. opened t (s.open_are t among);
+    stacks = λ t stack e. each t stack e (nat_eq entry t) refl;
+  }
+    where
+      kept-by : (t : ℕ) (b : Bool) → nat_eq entry t ≡ b → IsKnown known t → IsKnown new t
+      kept-by t true e k = (total, updates t ∙ ap (λ b. cond b (Some total) (known t)) e)
+      kept-by t false e (stack, k) = (stack, updates t ∙ (ap (λ b. cond b (Some total) (known t)) e ∙ k))
 
-    pub search-leave : (known new : Known) (entered : List ℕ) (entry total : ℕ) (tasks : List Task) → IsSearch known entered (Leave entry ∷ tasks)
-        → IsTotal image entry known total → ((t : ℕ) → new t ≡ cond (nat_eq entry t) (Some total) (known t)) → IsSearch new entered tasks
-    search-leave known new entered entry total tasks s is updates = record {
-      under = s.under.1;
-      covered = covered-more tasks (λ t. IsKnown known t ⊎ (t ≡ entry)) (IsKnown new) (λ t q. elim q [ inl k ↦ kept t k | inr e ↦ now t e ]) s.covered.1;
-      open_are = λ t among. opened t (s.open_are t among);
-      stacks = λ t stack e. each t stack e (nat_eq entry t) refl;
-    }
-      where
-        kept-by : (t : ℕ) (b : Bool) → nat_eq entry t ≡ b → IsKnown known t → IsKnown new t
-        kept-by t true e k = (total, updates t ∙ ap (λ b. cond b (Some total) (known t)) e)
-        kept-by t false e (stack, k) = (stack, updates t ∙ (ap (λ b. cond b (Some total) (known t)) e ∙ k))
+      kept : (t : ℕ) → IsKnown known t → IsKnown new t
+      kept t k = kept-by t (nat_eq entry t) refl k
 
-        kept : (t : ℕ) → IsKnown known t → IsKnown new t
-        kept t k = kept-by t (nat_eq entry t) refl k
+      now : (t : ℕ) → t ≡ entry → IsKnown new t
+      now t e = (total, updates t ∙ ap (λ b. cond b (Some total) (known t)) (eq-eqb entry t (sym e)))
 
-        now : (t : ℕ) → t ≡ entry → IsKnown new t
-        now t e = (total, updates t ∙ ap (λ b. cond b (Some total) (known t)) (eq-eqb entry t (sym e)))
+      opened : (t : ℕ) → IsKnown known t ⊎ ((t ≡ entry) ⊎ IsOpen tasks t) → IsKnown new t ⊎ IsOpen tasks t
+      opened t (inl k) = inl (kept t k)
+      opened t (inr (inl e)) = inl (now t e)
+      opened t (inr (inr o)) = inr o
 
-        opened : (t : ℕ) → IsKnown known t ⊎ ((t ≡ entry) ⊎ IsOpen tasks t) → IsKnown new t ⊎ IsOpen tasks t
-        opened t (inl k) = inl (kept t k)
-        opened t (inr (inl e)) = inl (now t e)
-        opened t (inr (inr o)) = inr o
+      each : (t stack : ℕ) → new t ≡ Some stack → (b : Bool) → nat_eq entry t ≡ b → IsStack image t stack
+      each t stack e true b =
+          let given = updates t ∙ ap (λ b. cond b (Some total) (known t)) b in
+          let same : total ≡ stack = cc in
+          subst (λ z. IsStack image z stack) (eqb-true entry t b)
+          (subst (IsStack image entry) same (total-stack known entry total is s.covered.0 s.stacks))
+      each t stack e false b = let given = updates t ∙ ap (λ b. cond b (Some total) (known t)) b in s.stacks t stack (sym given ∙ e)
 
-        each : (t stack : ℕ) → new t ≡ Some stack → (b : Bool) → nat_eq entry t ≡ b → IsStack image t stack
-        each t stack e true b =
-            let given = updates t ∙ ap (λ b. cond b (Some total) (known t)) b in
-            let same : total ≡ stack = cc in
-            subst (λ z. IsStack image z stack) (eqb-true entry t b)
-            (subst (IsStack image entry) same (total-stack known entry total (reached-task (Leave entry) tasks s.under) is s.covered.0 s.stacks))
-        each t stack e false b = let given = updates t ∙ ap (λ b. cond b (Some total) (known t)) b in s.stacks t stack (sym given ∙ e)
+  -- ---- a cycle, and the end
 
-    -- ---- a cycle, and the end
+  record Onward (tasks : List Task) (t : ℕ) : Type 0 where
+    last : ℕ
+    last_is : below tasks ≡ Some last
+    reached : Reaches image t last
 
-    record Onward (tasks : List Task) (t : ℕ) : Type 0 where
-      last : ℕ
-      last_is : below tasks ≡ Some last
-      reached : ReachesDirectly image t last
+  open-reaches : (tasks : List Task) (t : ℕ) → AllUnder tasks → IsOpen tasks t → Onward tasks t
+  open-reaches [] t under o = absurd o
+  open-reaches (Enter entry ∷ tasks) t under o = let on = open-reaches tasks t under.1 o in record { last = on.last; last_is = on.last_is; reached = on.reached }
+  open-reaches (Leave entry ∷ tasks) t under (inl e) = record { last = entry; last_is = refl; reached = subst (λ z. Reaches image z entry) (sym e) itself }
+  open-reaches (Leave entry ∷ tasks) t under (inr o) =
+      let on = open-reaches tasks t under.1 o in
+      let out = subst (λ o. MatchOption o (entry ≡ root) (λ caller. CallsOut image caller entry)) on.last_is under.0 in
+      record { last = entry; last_is = refl; reached = further on.last out.size entry on.reached out.size_is out.calls }
 
-    open-reaches : (tasks : List Task) (t : ℕ) → AllUnder tasks → IsOpen tasks t → Onward tasks t
-    open-reaches [] t under o = absurd o
-    open-reaches (Enter entry ∷ tasks) t under o = let on = open-reaches tasks t under.1 o in record { last = on.last; last_is = on.last_is; reached = on.reached }
-    open-reaches (Leave entry ∷ tasks) t under (inl e) = record { last = entry; last_is = refl; reached = subst (λ z. ReachesDirectly image z entry) (sym e) itself }
-    open-reaches (Leave entry ∷ tasks) t under (inr o) =
-        let on = open-reaches tasks t under.1 o in
-        let out = subst (λ o. MatchOption o (entry ≡ root) (λ caller. CallsOut image caller entry)) on.last_is under.0 in
-        record { last = entry; last_is = refl; reached = further on.last out.size entry on.reached out.size_is out.calls }
-
-    after : (t other : ℕ) → ReachesDirectly image root t → ReachesDirectly image t other → ReachesDirectly image root other
-    after t _ first itself = first
-    after t other first (further middle size _ reached is calls) = further middle size other (after t middle first reached) is calls
-
-    onward-reaches : (t other : ℕ) → ReachesDirectly image root t → ReachesDirectly image t other → Reaches image t other
-    onward-reaches t _ first itself = code.itself
-    onward-reaches t other first (further middle size _ reached is calls) =
-        code.further middle size other (onward-reaches t middle first reached) is
-        (calls-direct image middle size other (each_without image root middle size sound (after t middle first reached) is) calls)
-
-    pub search-cycle : (known : Known) (entered : List ℕ) (t : ℕ) (tasks : List Task) → IsSearch known entered (Enter t ∷ tasks) → Contains entered t
-        → (IsKnown known t → ⊥) → IsCyclic image root
-    search-cycle known entered t tasks s among unknown = at (s.open_are t among)
-      where
-        at : IsKnown known t ⊎ IsOpen tasks t → IsCyclic image root
-        at (inl k) = absurd (unknown k)
-        at (inr o) =
-            let first = reached-task (Enter t) tasks s.under in
-            let on = open-reaches tasks t s.under.1 o in
-            let out = subst (λ o. MatchOption o (t ≡ root) (λ caller. CallsOut image caller t)) on.last_is s.under.0 in
-            record {
-              other = t;
-              reached = reaches-direct image root t sound first;
-              last = on.last;
-              onward = onward-reaches t on.last first on.reached;
-              size = out.size;
-              size_is = out.size_is;
-              back = calls-direct image on.last out.size t (each_without image root on.last out.size sound (after t on.last first on.reached) out.size_is) out.calls;
-            }
+  pub search-cycle : (known : Known) (entered : List ℕ) (t : ℕ) (tasks : List Task) → IsSearch known entered (Enter t ∷ tasks) → Contains entered t
+      → (IsKnown known t → ⊥) → IsCyclic image root
+  search-cycle known entered t tasks s among unknown = at (s.open_are t among)
+    where
+      at : IsKnown known t ⊎ IsOpen tasks t → IsCyclic image root
+      at (inl k) = absurd (unknown k)
+      at (inr o) =
+          let first = reached-task (Enter t) tasks s.under in
+          let on = open-reaches tasks t s.under.1 o in
+          let out = subst (λ o. MatchOption o (t ≡ root) (λ caller. CallsOut image caller t)) on.last_is s.under.0 in
+          record {
+            other = t;
+            reached = first;
+            last = on.last;
+            onward = on.reached;
+            size = out.size;
+            size_is = out.size_is;
+            back = out.calls;
+          }
 
   pub search-end : (known : Known) (entered : List ℕ) (o : Option ℕ) → IsSearch known entered [] → known root ≡ o → IsDepth image root o
   search-end known entered None s e = absurd (no_stack s.covered)

@@ -20,10 +20,8 @@ use Rattle.rv_instr.specs.declared.ImmediateOperation.{ImmediateOperation}
 use Rattle.rv_instr.specs.declared.ImmediateOperation.TheVariants.{Add, SetLess, SetLessUnsigned, Xor, Or, And}
 use Rattle.elf_read_spec.specs.Image.{Image, size_at}
 use Rattle.code_reach_spec.specs.declared.CodeKind.TheVariants.{Overlap}
-use Rattle.code_reach_spec.specs.Code.{word_at, instr_at, InRange, opening_of, IsReachable, CallsOn, Reaches, itself, further, IsCyclic, IsStack, deep}
+use Rattle.code_reach_spec.specs.Code.{word_at, instr_at, InRange, opening_of, CallsOn, Reaches, itself, further, IsCyclic, IsStack, deep}
 use Rattle.code_reach_spec.specs.Faults.{overlap, ReachesNoFault}
-use Rattle.code_reach_spec.proofs.Direct.{direct-reachable, direct-reaches, each_without}
-use Rattle.code_reach.specs.Growth.{IsPlace}
 use Rattle.code_reach.proofs.Acyclic.{stack-acyclic}
 use Rattle.code_reach.proofs.Places.{place}
 
@@ -168,17 +166,11 @@ module _ (image : Image) (root : ℕ) (sound : ReachesNoFault image root) where
   meet_not : (one size other other_size address : ℕ) → Reaches image root one → Reaches image root other → size_at image one ≡ Some size
       → size_at image other ≡ Some other_size → (one ≡ other → ⊥) → InRange one size address → InRange other other_size address → ⊥
   meet_not one size other other_size address first second is other_is apart here there = elim (cases_lt one other) [
-    | inl lower ↦ sound Overlap other (overlap one size other other_size (direct-reaches image root one sound first) is (direct-reaches image root other sound second) other_is lower
+    | inl lower ↦ sound Overlap other (overlap one size other other_size first is second other_is lower
         (record { address = address; in_one = here; in_other = there }))
-    | inr upper ↦ sound Overlap one (overlap other other_size one size (direct-reaches image root other sound second) other_is (direct-reaches image root one sound first) is
+    | inr upper ↦ sound Overlap one (overlap other other_size one size second other_is first is
         (grind (arith, upper, apart)) (record { address = address; in_one = there; in_other = here }))
   ]
-
-  -- where the function at an entry is reached, so is each of its addresses
-  own_place : (entry size address : ℕ) → Reaches image root entry → size_at image entry ≡ Some size → IsReachable image entry size address → IsPlace entry size address
-  own_place entry size address reached is at =
-      place image entry size address
-      (direct-reachable image entry size address (each_without image root entry size sound (direct-reaches image root entry sound reached) is) at)
 
   path : (entry stack : ℕ) → Reaches image root entry → IsStack image entry stack → HasPath entry stack
   path _ _ reached (deep entry size deepest places below is are stacks greatest) =
@@ -186,7 +178,7 @@ module _ (image : Image) (root : ℕ) (sound : ReachesNoFault image root) where
     where
       own : (a : ℕ) → Contains places a → IsOwned entry a
       own a among =
-          let there = own_place entry size a reached is ((are.exactly a).0 among) in
+          let there = place image entry size a ((are.exactly a).0 among) in
           record { owner = entry; reached = itself; size = size; size_is = is; inside = there.inside; space = omega (arith, there.whole) }
 
       apart : (t a : ℕ) → CallsOn image entry size t → IsOwned t a → InRange entry size a → ⊥
@@ -210,7 +202,7 @@ module _ (image : Image) (root : ℕ) (sound : ReachesNoFault image root) where
           record {
             addresses = places ++ p.addresses;
             distinct = distinct_append places p.addresses (rising_distinct places are.rising) p.distinct
-                (λ a x y. apart t a calls (p.owned a y) (own_place entry size a reached is ((are.exactly a).0 x)).inside);
+                (λ a x y. apart t a calls (p.owned a y) (place image entry size a ((are.exactly a).0 x)).inside);
             owned = λ a among. elim (Contains-append_cases places p.addresses a among) [
               | inl x ↦ own a x
               | inr y ↦

@@ -5,7 +5,7 @@ use Rattle.std.proofs.lemmas.List.{get_or_append_left, get_or_default}
 use Rattle.std.proofs.lemmas.List.Elements.{Contains-get_or}
 use Rattle.elf_read_spec.specs.Image.{Image, size_at}
 use Rattle.code_reach_spec.specs.declared.CodeKind.{CodeKind}
-use Rattle.code_reach_spec.specs.Faults.{CallsDirectly, call, ReachesDirectly, itself, further}
+use Rattle.code_reach_spec.specs.Code.{CallsOn, call, tail, Reaches, itself, further}
 use Rattle.code_reach.specs.Growth.{Grows}
 use Rattle.code_reach.specs.Surveys.{CallsOut, HasFault, AnyHasFault, IsFirstOf, AreEntries, earlier}
 use Rattle.code_reach.specs.declared.faults.CodeFault.{CodeFault}
@@ -14,7 +14,7 @@ use Rattle.code_reach.proofs.Firsts.{first_of-as, first-earlier}
 
 -- a function that is reached, with its size
 pub record IsEntry (image : Image) (entry other : ℕ) : Type 0 where
-  pub reached : ReachesDirectly image entry other
+  pub reached : Reaches image entry other
   pub sized : IsSome (size_at image other)
 
 -- one of the first so many has this fault
@@ -27,8 +27,9 @@ pub record IsSurveyed (image : Image) (entry next : ℕ) (items : List ℕ) (fir
   pub walked : IsWalked (CallsOut image) (IsEntry image entry) entry next items
   pub first_is : IsFirstOf (HasFaultBelow image items next) first
 
-pub called-sized : (image : Image) (entry size target : ℕ) → CallsDirectly image entry size target → IsSome (size_at image target)
+pub called-sized : (image : Image) (entry size target : ℕ) → CallsOn image entry size target → IsSome (size_at image target)
 called-sized image entry size target (call address _ reached flow some) = some
+called-sized image entry size target (tail address _ reached flow out some) = some
 
 module _ (image : Image) (entry : ℕ) where
   entry-next : (here target : ℕ) → IsEntry image entry here → CallsOut image here target → IsEntry image entry target
@@ -80,7 +81,7 @@ module _ (image : Image) (entry : ℕ) where
   -- ---- when all are visited
 
   module _ (next : ℕ) (items : List ℕ) (first : Option CodeFault) (done : IsSurveyed image entry next items first) (over : length items ≤ next) where
-    found-all : (other : ℕ) → ReachesDirectly image entry other → Contains items other
+    found-all : (other : ℕ) → Reaches image entry other → Contains items other
     found-all _ itself = done.walked.starts
     found-all _ (further middle size target reached is calls) =
         walked-all (CallsOut image) (IsEntry image entry) entry next items done.walked over middle target (found-all middle reached)

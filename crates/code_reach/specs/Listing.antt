@@ -3,24 +3,24 @@ use Rattle.std.specs.Prelude.{◌≡◌, ◌<◌, ℕ, List, length, map, All, s
 use Rattle.elf_read_spec.specs.Image.{Image}
 use Rattle.code_reach_spec.specs.declared.CodeKind.{CodeKind}
 use Rattle.code_reach_spec.specs.Code.{word_at}
-use Rattle.code_reach.specs.Flows.{fault_at}
+use Rattle.code_reach.specs.Flows.{fault_among}
 use Rattle.code_reach.specs.declared.faults.CodeError.{CodeError}
 use Rattle.code_reach.specs.declared.faults.CodeError.TheVariants.{Fault, NoMemory}
 
--- no instruction at these addresses is wrong, and these are the addresses with their words
-pub record AreWords (image : Image) (entry size : ℕ) (addresses : List ℕ) (words : List (ℕ × ℕ)) : Type 0 where
-  pub sound : (k : ℕ) → k < length addresses → fault_at image entry size (slice_index addresses k) ≡ None
+-- no instruction at these addresses is wrong, where these are the targets that are reached, and these are the addresses with their words
+pub record AreWords (image : Image) (entry size : ℕ) (targets addresses : List ℕ) (words : List (ℕ × ℕ)) : Type 0 where
+  pub sound : (k : ℕ) → k < length addresses → fault_among image entry size targets (slice_index addresses k) ≡ None
   pub places : map (λ w. w.0) words ≡ addresses
   pub words_are : All (λ w. word_at image w.0 ≡ Some w.1) words
 
 -- the first of the addresses at which an instruction is wrong
-pub record IsStop (image : Image) (entry size : ℕ) (addresses : List ℕ) (kind : CodeKind) (address : ℕ) : Type 0 where
+pub record IsStop (image : Image) (entry size : ℕ) (targets addresses : List ℕ) (kind : CodeKind) (address : ℕ) : Type 0 where
   pub index : ℕ
   pub among : index < length addresses
   pub address_is : address ≡ slice_index addresses index
-  pub fault : fault_at image entry size address ≡ Some kind
-  pub before : (k : ℕ) → k < index → fault_at image entry size (slice_index addresses k) ≡ None
+  pub fault : fault_among image entry size targets address ≡ Some kind
+  pub before : (k : ℕ) → k < index → fault_among image entry size targets (slice_index addresses k) ≡ None
 
-abbrev pub IsListingError : Image → (entry size : ℕ) → List ℕ → CodeError → Type 0
-IsListingError image entry size addresses (Fault fault) = IsStop image entry size addresses fault.kind fault.address
-IsListingError image entry size addresses NoMemory = Unit {0}
+abbrev pub IsListingError : Image → (entry size : ℕ) → (targets addresses : List ℕ) → CodeError → Type 0
+IsListingError image entry size targets addresses (Fault fault) = IsStop image entry size targets addresses fault.kind fault.address
+IsListingError image entry size targets addresses NoMemory = Unit {0}

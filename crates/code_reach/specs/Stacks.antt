@@ -1,8 +1,7 @@
 -- The search for the stack of a function: what is done, what is open, and what is to do.
 use Rattle.std.specs.Prelude.{◌≡◌, ◌⊎◌, ◌↔◌, ◌+◌, ◌^◌, ◌<◌, ◌≤◌, ℕ, List, [], ◌∷◌, ◌++◌, length, map, sum_by, Contains, slice_index, Option, Some, None, unwrap_or}
 use Rattle.elf_read_spec.specs.Image.{Image, size_at}
-use Rattle.code_reach_spec.specs.Code.{instr_at, opening_of, IsGreatest}
-use Rattle.code_reach.specs.Growth.{AreReached}
+use Rattle.code_reach_spec.specs.Code.{instr_at, opening_of, AreReachable, IsGreatest}
 use Rattle.code_reach.specs.Surveys.{CallsOut}
 use Rattle.code_reach.specs.declared.stacks.Task.{Task}
 use Rattle.code_reach.specs.declared.stacks.Task.TheVariants.{Enter, Leave}
@@ -31,7 +30,7 @@ pub record IsDeepest (known : Known) (calls : List ℕ) (deepest : ℕ) : Type 0
 -- by how much the words of a function lower the stack pointer
 pub record IsOwnStack (image : Image) (entry size own : ℕ) : Type 0 where
   pub places : List ℕ
-  pub places_are : AreReached image entry size places
+  pub places_are : AreReachable image entry size places
   pub own_is : own ≡ sum_by (opening_at image) places
 
 -- the stack of a function, where those of what it calls are known
@@ -39,7 +38,7 @@ pub record IsTotal (image : Image) (entry : ℕ) (known : Known) (total : ℕ) :
   pub size : ℕ
   pub size_is : size_at image entry ≡ Some size
   pub places : List ℕ
-  pub places_are : AreReached image entry size places
+  pub places_are : AreReachable image entry size places
   pub deepest : ℕ
   pub greatest : IsGreatest (CallsOut image entry) (known_or_zero known) deepest
   pub total_is : total ≡ sum_by (opening_at image) places + deepest

@@ -3,29 +3,23 @@ use Rattle.std.specs.Prelude.{◌≡◌, ◌↔◌, ◌<◌, ◌==◌, ◌&&◌,
 use Rattle.elf_read_spec.specs.Image.{Image, size_at}
 use Rattle.code_reach_spec.specs.declared.CodeKind.{CodeKind}
 use Rattle.code_reach_spec.specs.declared.CodeKind.TheVariants.{Overlap}
-use Rattle.code_reach_spec.specs.Code.{Calls}
-use Rattle.code_reach_spec.specs.Faults.{direct_flow, CallsDirectly, ReachesDirectly, IsFunctionFault, RangesMeet, IsFirst, rank}
-use Rattle.code_reach.specs.Flows.{fault_at}
+use Rattle.code_reach_spec.specs.Code.{CallsOn, Reaches}
+use Rattle.code_reach_spec.specs.Faults.{IsFunctionFault, RangesMeet, IsFirst, rank}
+use Rattle.code_reach.specs.Flows.{callee_at, fault_among}
 use Rattle.code_reach.specs.declared.faults.CodeFault.{CodeFault}
 
 -- ---- calls
 
--- the instruction at an address calls an entry
-pub record CallsFrom (image : Image) (address target : ℕ) : Type 0 where
-  pub flow_is : direct_flow image address ≡ Some (Calls target)
+-- the instruction at an address of a function calls an entry, or ends it by a jump to one out of the range
+pub record CallsFrom (image : Image) (entry size address target : ℕ) : Type 0 where
+  pub callee_is : callee_at image entry size address ≡ Some target
   pub entry_there : IsSome (size_at image target)
-
--- one of the first so many of the addresses has an instruction that calls it
-pub record CallsAmong (image : Image) (addresses : List ℕ) (count target : ℕ) : Type 0 where
-  pub index : ℕ
-  pub below : index < count
-  pub call : CallsFrom image (slice_index addresses index) target
 
 -- the function at one entry calls that at the other
 pub record CallsOut (image : Image) (entry target : ℕ) : Type 0 where
   pub size : ℕ
   pub size_is : size_at image entry ≡ Some size
-  pub calls : CallsDirectly image entry size target
+  pub calls : CallsOn image entry size target
 
 -- ---- faults
 
@@ -38,12 +32,13 @@ pub record HasFault (image : Image) (entry : ℕ) (kind : CodeKind) (address : �
 -- a function that is reached has this fault
 pub record AnyHasFault (image : Image) (entry : ℕ) (kind : CodeKind) (address : ℕ) : Type 0 where
   pub other : ℕ
-  pub reached : ReachesDirectly image entry other
+  pub reached : Reaches image entry other
   pub has : HasFault image other kind address
 
--- no instruction at these addresses is wrong
-abbrev pub AreSound : Image → (entry size : ℕ) → List ℕ → Type 0
-AreSound image entry size addresses = (k : ℕ) → k < length addresses → fault_at image entry size (slice_index addresses k) ≡ None
+-- no instruction at these addresses is wrong, where these are the targets that are reached
+abbrev pub AreSound : Image → (entry size : ℕ) → (targets addresses : List ℕ) → Type 0
+AreSound image entry size targets addresses =
+    (k : ℕ) → k < length addresses → fault_among image entry size targets (slice_index addresses k) ≡ None
 
 -- none, or the first of the faults
 abbrev pub IsFirstOf : (CodeKind → (address : ℕ) → Type 0) → Option CodeFault → Type 0
@@ -61,9 +56,9 @@ earlier (Some fault) (Some other) = if is_before other fault then Some other els
 
 -- ---- what is reached
 
--- these are the entries that are reached directly, and each has a size
+-- these are the entries that are reached, and each has a size
 pub record AreEntries (image : Image) (entry : ℕ) (entries : List ℕ) : Type 0 where
-  pub exactly : (other : ℕ) → Contains entries other ↔ ReachesDirectly image entry other
+  pub exactly : (other : ℕ) → Contains entries other ↔ Reaches image entry other
   pub sized : All (λ other. IsSome (size_at image other)) entries
 
 -- the range of the entry at a place meets that of one before it

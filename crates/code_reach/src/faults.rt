@@ -1,16 +1,16 @@
 //! What is wrong with code.
 
-ghost use Rattle.std.specs.Prelude.{◌≡◌, ◌+◌, ◌<◌, ◌≤◌, ◌^◌, is_some, if◌then◌else◌, IfOk, IfErr};
-ghost use Rattle.std.specs.Prelude.{Some, None, ◌∷◌, []};
-ghost use Rattle.code_reach_spec.specs.Code as code;
-ghost use Rattle.code_reach_spec.specs.Code.{word_at};
-ghost use Rattle.code_reach_spec.specs.Faults.{is_indirect};
-ghost use Rattle.code_reach.specs.Flows as spec;
+ghost use Rattle.std.specs.Prelude.{◌≡◌, ◌+◌, ◌<◌, ◌≤◌, ◌^◌, ◌&&◌, ◌||◌, is_some};
+ghost use Rattle.code_reach_spec.specs.FaultAt as spec;
+ghost use Rattle.code_reach_spec.specs.Faults.{is_jalr as is_jalr_of};
+ghost use Rattle.elf_read_spec.specs.Image.{size_at};
+ghost use Rattle.code_reach.specs.Flows.{flow_seen, fault_among};
 ghost use Rattle.code_reach.specs.declared.faults.CodeError.TheVariants.{NoMemory, Fault};
 
-use crate::flows::{Flow, flow_of, instruction_at, word};
+use crate::flows::{Flow, flow_of, instruction_at, instruction_before};
 use code_reach_spec::CodeKind;
 use elf_read::Image;
+use indexmap::IndexSet;
 use rv_instr::Instr;
 use std::alloc::{AllocError, AllocFailed};
 use thiserror::Error;
@@ -76,82 +76,110 @@ pub(crate) fn has_next(entry: u32, size: u32, address: u32) -> bool
     size - (address - entry) > 4
 }
 
-/// `Leaves`, unless control stays in the function.
-fn leaves_unless(stays: bool) -> Option<CodeKind>
-    ensures { result ≡ (if stays then None else Some CodeKind.Leaves) }
-{
-    if stays { None } else { Some(CodeKind::Leaves) }
-}
-
 /// Whether the instruction is a JALR.
 fn is_jalr(instruction: &Instr) -> bool
-    ensures { result ≡ is_indirect instruction.now code.Stops }
+    ensures { result ≡ is_jalr_of instruction.now }
 {
     matches!(*instruction, Instr::Jalr { .. })
 }
 
-/// `NoFunction`, unless the target of a call is an entry.
-fn call_fault(image: &Image<'_>, target: u32) -> Option<CodeKind>
-    ensures { result ≡ spec.call_fault image.now target }
+/// Whether the instruction calls what is no function.
+fn calls_none(image: &Image<'_>, flow: Flow) -> bool
+    ensures { result ≡ spec.calls_none image.now (flow_seen flow) }
 {
-    if image.size_at(target).is_some() {
-        None
-    } else {
-        Some(CodeKind::NoFunction)
+    match flow {
+        Flow::Calls(target) => image.size_at(target).is_none(),
+        _ => false,
     }
 }
 
-/// What is wrong with an instruction of this flow.
+/// Whether the instruction goes to an unknown address, or is the JALR of a pair that can be reached
+/// without its AUIPC: it is the target of an instruction that is reached.
+fn is_unknown(instruction: &Instr, flow: Flow, is_target: bool) -> bool
+    ensures { result ≡ spec.is_unknown is_target instruction.now (flow_seen flow) }
+{
+    match flow {
+        Flow::Links(_) => true,
+        Flow::Stops => is_jalr(instruction),
+        Flow::Jumps(_) | Flow::Calls(_) => is_target && is_jalr(instruction),
+        Flow::Falls | Flow::Branches(_) | Flow::Returns => false,
+    }
+}
+
+/// Whether a jump stays in the function, or goes to the entry of one: out of the range it is a tail
+/// call.
+fn may_jump(image: &Image<'_>, entry: u32, size: u32, target: u32) -> bool
+    ensures { result ≡ (spec.in_range entry size target || is_some (size_at image.now target)) }
+{
+    is_in_range(entry, size, target) || image.size_at(target).is_some()
+}
+
+/// Whether control stays in the function after an instruction, or ends it by a tail call. A call
+/// comes back to the next instruction, which may lie outside.
+fn stays(image: &Image<'_>, entry: u32, size: u32, address: u32, flow: Flow) -> bool
+    requires from { entry ≤ address }
+    requires below { address < entry + size }
+    ensures { result ≡ spec.stays image.now entry size address (flow_seen flow) }
+{
+    match flow {
+        Flow::Falls => has_next(entry, size, address),
+        Flow::Branches(target) => {
+            has_next(entry, size, address) && is_in_range(entry, size, target)
+        }
+        Flow::Jumps(target) => may_jump(image, entry, size, target),
+        Flow::Calls(_) | Flow::Links(_) | Flow::Returns | Flow::Stops => true,
+    }
+}
+
+/// What is wrong with an instruction of this flow, the least kind first.
 fn flow_fault(
     image: &Image<'_>,
     entry: u32,
     size: u32,
     address: u32,
+    is_target: bool,
     instruction: &Instr,
     flow: Flow,
 ) -> Option<CodeKind>
     requires from { entry ≤ address }
     requires below { address < entry + size }
-    ensures { result ≡ spec.flow_fault image.now entry size address instruction.now
-        (spec.flow_seen flow) }
+    ensures { result ≡ spec.flow_fault image.now entry size address is_target instruction.now
+        (flow_seen flow) }
 {
-    match flow {
-        Flow::Falls => leaves_unless(has_next(entry, size, address)),
-        Flow::Branches(target) => branch_fault(entry, size, address, target),
-        Flow::Jumps(target) => leaves_unless(is_in_range(entry, size, target)),
-        Flow::Calls(target) => call_fault(image, target),
-        Flow::Links(_) => Some(CodeKind::Indirect),
-        Flow::Stops if is_jalr(instruction) => Some(CodeKind::Indirect),
-        Flow::Stops | Flow::Returns => None,
+    if calls_none(image, flow) {
+        return Some(CodeKind::NoFunction);
     }
-}
-
-/// `Leaves`, unless both ways of a branch stay in the function.
-fn branch_fault(entry: u32, size: u32, address: u32, target: u32) -> Option<CodeKind>
-    requires from { entry ≤ address }
-    requires below { address < entry + size }
-    ensures { result ≡ (if spec.stays entry size ((address + 4) ∷ target
-        ∷ []) then None else Some CodeKind.Leaves) }
-{
-    if has_next(entry, size, address) {
-        return leaves_unless(is_in_range(entry, size, target));
+    if is_unknown(instruction, flow, is_target) {
+        return Some(CodeKind::Indirect);
+    }
+    if stays(image, entry, size, address, flow) {
+        return None;
     }
     Some(CodeKind::Leaves)
 }
 
-/// What is wrong with the instruction at an address of a function that has code.
-#[tactic(auto, unfolding(crate::specs::Flows::fault_at))]
-pub(crate) fn fault_at(image: &Image<'_>, entry: u32, size: u32, address: u32) -> Option<CodeKind>
+/// What is wrong with the instruction at an address of a function that has code, where these are
+/// the targets that it reaches.
+#[tactic(auto, unfolding(code_reach_spec::specs::FaultAt::fault_at))]
+pub(crate) fn fault_at(
+    image: &Image<'_>,
+    entry: u32,
+    size: u32,
+    targets: &IndexSet<u32>,
+    address: u32,
+) -> Option<CodeKind>
     requires from { entry ≤ address }
     requires below { address < entry + size }
     requires whole { address + 4 ≤ 2 ^ 32 }
-    ensures { result ≡ spec.fault_at image.now entry size address }
+    ensures { result ≡ fault_among image.now entry size targets.now.keys address }
 {
     match instruction_at(image, address) {
         None => Some(CodeKind::Undecoded),
         Some(instruction) => {
-            let flow = flow_of(address, &instruction);
-            flow_fault(image, entry, size, address, &instruction, flow)
+            let previous = instruction_before(image, entry, address);
+            let flow = flow_of(previous, address, &instruction);
+            let is_target = targets.contains(&address);
+            flow_fault(image, entry, size, address, is_target, &instruction, flow)
         }
     }
 }

@@ -1,12 +1,12 @@
 //! Words and instructions, and where control goes after them.
 
-ghost use Rattle.std.specs.Prelude.{◌≡◌, ◌+◌, ◌≤◌, ◌^◌, ◌==◌, if◌then◌else◌, None};
+ghost use Rattle.std.specs.Prelude.{◌≡◌, ◌+◌, ◌-◌, ◌*◌, ◌/◌, ◌≤◌, ◌^◌, ◌==◌, ◌&&◌};
+ghost use Rattle.std.specs.Prelude.{not, nat_le, if◌then◌else◌, Some};
 ghost use Rattle.std.specs.Option.{option_map};
 ghost use Rattle.rv_machine_spec.specs.Arithmetic.{word as word_of};
 ghost use Rattle.rv_machine_spec.specs.Machine.{past};
 ghost use Rattle.code_reach_spec.specs.Code as spec;
 ghost use Rattle.code_reach_spec.specs.Code.{word_at};
-ghost use Rattle.code_reach_spec.specs.Faults.{direct_flow as direct};
 ghost use Rattle.code_reach.specs.Flows.{flow_seen};
 
 use byteorder::{ByteOrder, LittleEndian};
@@ -16,7 +16,7 @@ use rv_instr::{Instr, Reg};
 
 /// Where control goes after an instruction.
 #[derive(Clone, Copy)]
-pub(crate) enum Flow {
+pub enum Flow {
     /// To the next instruction.
     Falls,
     /// To the next instruction or to the target.
@@ -74,9 +74,68 @@ fn jump_flow(rd: Reg, target: u32) -> Flow
     }
 }
 
-/// The flow of an instruction at an address, looked at alone.
-pub(crate) fn flow_of(address: u32, instruction: &Instr) -> Flow
-    ensures { flow_seen result ≡ spec.flow_of None address instruction.now }
+/// Whether a JALR to `rd` by `base` forms a pair with an AUIPC to a register directly before it.
+fn is_pair(register: Reg, rd: Reg, base: Reg) -> bool
+    ensures { result ≡ (not (register == 0) && (register == base) && nat_le rd 1) }
+{
+    register.number() != 0 && register.number() == base.number() && rd.number() <= 1
+}
+
+/// Where the JALR of a pair goes, which is at an address; bit 0 is cleared.
+fn pair_destination(address: u32, imm: u32, offset: i32) -> u32
+    ensures { result ≡ spec.target_of (past (address - 4) (imm * 2 ^ 12)) offset / 2 * 2 }
+{
+    let base = address.saturating_sub(4).wrapping_add(imm << 12);
+    moved(base, offset) / 2 * 2
+}
+
+/// Where a JALR at an address goes as the second word of a pair, where this instruction is before
+/// it; `None` where the two are no pair.
+fn target_after(instruction: &Instr, address: u32, rd: Reg, base: Reg, offset: i32) -> Option<u32>
+    ensures { result ≡ spec.pair_target (Some instruction.now) address rd base offset }
+{
+    match *instruction {
+        Instr::Auipc { rd: register, imm } => {
+            if is_pair(register, rd, base) {
+                Some(pair_destination(address, imm, offset))
+            } else {
+                None
+            }
+        }
+        _ => None,
+    }
+}
+
+/// The same, given the instruction before it, if there is one.
+fn pair_target(
+    previous: Option<Instr>,
+    address: u32,
+    rd: Reg,
+    base: Reg,
+    offset: i32,
+) -> Option<u32>
+    ensures { result ≡ spec.pair_target previous address rd base offset }
+{
+    match previous {
+        Some(instruction) => target_after(&instruction, address, rd, base, offset),
+        None => None,
+    }
+}
+
+/// The flow of a JALR that is no return, where it goes to this target as the second word of a pair.
+fn pair_flow(target: Option<u32>, rd: Reg) -> Flow
+    ensures { flow_seen result ≡ spec.flow_of_pair target rd }
+{
+    match target {
+        Some(target) if rd.number() == 0 => Flow::Jumps(target),
+        Some(target) => Flow::Calls(target),
+        None => Flow::Stops,
+    }
+}
+
+/// The flow of an instruction at an address, given the one before it in the same function.
+pub(crate) fn flow_of(previous: Option<Instr>, address: u32, instruction: &Instr) -> Flow
+    ensures { flow_seen result ≡ spec.flow_of previous address instruction.now }
 {
     match *instruction {
         Instr::Jal { rd, offset } => jump_flow(rd, moved(address, offset)),
@@ -84,7 +143,7 @@ pub(crate) fn flow_of(address: u32, instruction: &Instr) -> Flow
             if rd.number() == 0 && base.number() == 1 && offset == 0 {
                 Flow::Returns
             } else {
-                Flow::Stops
+                pair_flow(pair_target(previous, address, rd, base, offset), rd)
             }
         }
         Instr::Branch { offset, .. } => Flow::Branches(moved(address, offset)),
@@ -100,12 +159,27 @@ pub(crate) fn flow_of(address: u32, instruction: &Instr) -> Flow
     }
 }
 
-/// The flow of the instruction at an address, looked at alone.
-#[tactic(auto, unfolding(code_reach_spec::specs::Faults::direct_flow))]
-pub(crate) fn direct_flow(image: &Image<'_>, address: u32) -> Option<Flow>
-    requires { address + 4 ≤ 2 ^ 32 }
-    ensures { option_map flow_seen result ≡ direct image.now address }
+/// The instruction before the one at an address, in the function at an entry: before the entry
+/// there is none.
+pub(crate) fn instruction_before(image: &Image<'_>, entry: u32, address: u32) -> Option<Instr>
+    requires from { entry ≤ address }
+    requires whole { address + 4 ≤ 2 ^ 32 }
+    ensures { result ≡ spec.instr_before image.now entry address }
+{
+    if address - entry >= 4 {
+        return instruction_at(image, address - 4);
+    }
+    None
+}
+
+/// The flow of the instruction at an address of the function at an entry.
+#[tactic(auto, unfolding(code_reach_spec::specs::Code::flow_at))]
+pub fn flow_at(image: &Image<'_>, entry: u32, address: u32) -> Option<Flow>
+    requires from { entry ≤ address }
+    requires whole { address + 4 ≤ 2 ^ 32 }
+    ensures { option_map flow_seen result ≡ spec.flow_at image.now entry address }
 {
     let instruction = instruction_at(image, address)?;
-    Some(flow_of(address, &instruction))
+    let previous = instruction_before(image, entry, address);
+    Some(flow_of(previous, address, &instruction))
 }

@@ -4,14 +4,15 @@ ghost use Rattle.std.specs.Prelude.{◌≡◌, ◌+◌, ◌<◌, ◌≤◌, ◌^
 ghost use Rattle.std.specs.Prelude.{MatchOption};
 ghost use Rattle.elf_read_spec.specs.Image.{size_at};
 ghost use Rattle.code_reach_spec.specs.Faults.{rank as rank_of};
-ghost use Rattle.code_reach.specs.Growth.{Grows, IsPlace};
+ghost use Rattle.code_reach.specs.Flows.{flow_seen, called_by, callee_at as callee_there};
+ghost use Rattle.code_reach.specs.Growth.{Grows, FromFirst, IsPlace};
 ghost use Rattle.code_reach.specs.Listing.{IsStop};
 ghost use Rattle.code_reach.specs.Surveys as spec;
-ghost use Rattle.code_reach.specs.Surveys.{CallsFrom, CallsAmong, CallsOut, HasFault, AreSound};
+ghost use Rattle.code_reach.specs.Surveys.{CallsFrom, CallsOut, HasFault, AreSound};
 ghost use Rattle.code_reach.specs.Surveys.{IsFirstOf};
 
-use crate::faults::{CodeFault, fault_at};
-use crate::flows::{Flow, direct_flow};
+use crate::faults::{CodeFault, fault_at, is_in_range};
+use crate::flows::{Flow, flow_at};
 use crate::range::range_fault;
 use crate::walk::{add, reached};
 use code_reach_spec::CodeKind;
@@ -57,12 +58,48 @@ pub(crate) fn earlier(first: Option<CodeFault>, second: Option<CodeFault>) -> Op
     }
 }
 
-/// Adds the entry that the instruction at an address calls, if it calls one.
-fn add_call(entries: &mut IndexSet<u32>, image: &Image<'_>, address: u32) -> Result<(), AllocError>
-    requires { address + 4 ≤ 2 ^ 32 }
-    ensures { OnOk result (Grows (CallsFrom image.now address) entries.old.keys entries.new.keys) }
+/// Where an instruction of this flow calls, in the function of this entry and size: the target of a
+/// call, and that of a tail call, which is a jump out of the range.
+pub fn callee(entry: u32, size: u32, flow: Flow) -> Option<u32>
+    ensures { result ≡ called_by entry size (flow_seen flow) }
 {
-    let Some(Flow::Calls(target)) = direct_flow(image, address) else {
+    match flow {
+        Flow::Jumps(target) => {
+            if is_in_range(entry, size, target) {
+                None
+            } else {
+                Some(target)
+            }
+        }
+        Flow::Calls(target) => Some(target),
+        Flow::Falls | Flow::Branches(_) | Flow::Links(_) | Flow::Returns | Flow::Stops => None,
+    }
+}
+
+/// Where the instruction at an address of a function calls.
+pub fn callee_at(image: &Image<'_>, entry: u32, size: u32, address: u32) -> Option<u32>
+    requires from { entry ≤ address }
+    requires whole { address + 4 ≤ 2 ^ 32 }
+    ensures { result ≡ callee_there image.now entry size address }
+{
+    let flow = flow_at(image, entry, address)?;
+    callee(entry, size, flow)
+}
+
+/// Adds the entry that the instruction at an address of a function calls, if it calls one.
+fn add_call(
+    entries: &mut IndexSet<u32>,
+    image: &Image<'_>,
+    entry: u32,
+    size: u32,
+    address: u32,
+) -> Result<(), AllocError>
+    requires from { entry ≤ address }
+    requires whole { address + 4 ≤ 2 ^ 32 }
+    ensures { OnOk result (Grows
+        (CallsFrom image.now entry size address) entries.old.keys entries.new.keys) }
+{
+    let Some(target) = callee_at(image, entry, size, address) else {
         return Ok(());
     };
     if image.size_at(target).is_some() {
@@ -71,30 +108,40 @@ fn add_call(entries: &mut IndexSet<u32>, image: &Image<'_>, address: u32) -> Res
     Ok(())
 }
 
-/// Adds the entries that the instructions at some addresses call.
+/// Adds the entries that the instructions at some addresses of a function call.
 fn add_calls(
     entries: &mut IndexSet<u32>,
     image: &Image<'_>,
+    entry: u32,
+    size: u32,
     addresses: &[u32],
 ) -> Result<(), AllocError>
-    requires { All (λ address. address + 4 ≤ 2 ^ 32) addresses.now }
-    ensures { OnOk result (Grows (CallsAmong image.now addresses.now
+    requires { All (IsPlace entry size) addresses.now }
+    ensures { OnOk result (Grows (FromFirst (CallsFrom image.now entry size) addresses.now
         (length addresses.now)) entries.old.keys entries.new.keys) }
 {
     for address in addresses {
-        add_call(entries, image, *address)?;
+        add_call(entries, image, entry, size, *address)?;
     }
     Ok(())
 }
 
-/// The first of some addresses of a function at which an instruction is wrong.
-fn first_wrong(image: &Image<'_>, entry: u32, size: u32, addresses: &[u32]) -> Option<CodeFault>
+/// The first of some addresses of a function at which an instruction is wrong, where these are the
+/// targets that it reaches.
+fn first_wrong(
+    image: &Image<'_>,
+    entry: u32,
+    size: u32,
+    targets: &IndexSet<u32>,
+    addresses: &[u32],
+) -> Option<CodeFault>
     requires { All (IsPlace entry size) addresses.now }
-    ensures { MatchOption result (AreSound image.now entry size addresses.now)
-        (λ fault. IsStop image.now entry size addresses.now fault.kind fault.address) }
+    ensures { MatchOption result (AreSound image.now entry size targets.now.keys addresses.now)
+        (λ fault. IsStop image.now entry size targets.now.keys addresses.now fault.kind
+        fault.address) }
 {
     for address in addresses {
-        if let Some(kind) = fault_at(image, entry, size, *address) {
+        if let Some(kind) = fault_at(image, entry, size, targets, *address) {
             return Some(CodeFault {
                 kind,
                 address: *address,
@@ -123,8 +170,9 @@ pub(crate) fn visit(
             address: entry,
         }));
     }
-    let places = reached(alloc, image, entry, size)?;
+    let mut targets = IndexSet::new(alloc);
+    let places = reached(alloc, &mut targets, image, entry, size)?;
     let addresses = places.as_slice();
-    add_calls(entries, image, addresses)?;
-    Ok(first_wrong(image, entry, size, addresses))
+    add_calls(entries, image, entry, size, addresses)?;
+    Ok(first_wrong(image, entry, size, &targets, addresses))
 }

@@ -18,7 +18,8 @@ mod survey;
 mod walk;
 
 pub use faults::{CodeError, CodeFault};
-pub use flows::instruction_at;
+pub use flows::{Flow, flow_at, instruction_at};
+pub use functions::{callee, callee_at};
 pub use listing::code;
 pub use range::range_fault;
 pub use stacks::{lowering, stack};

@@ -3,7 +3,7 @@
 ghost use Rattle.std.specs.Prelude.{◌≡◌, ◌+◌, ◌<◌, ◌≤◌, ◌^◌, All, IfOk, IfErr, IsSome, Some, None};
 ghost use Rattle.elf_read_spec.specs.Image.{size_at};
 ghost use Rattle.code_reach_spec.specs.Code.{word_at};
-ghost use Rattle.code_reach.specs.Flows as spec;
+ghost use Rattle.code_reach.specs.Flows.{fault_among};
 ghost use Rattle.code_reach.specs.Growth.{IsPlace};
 ghost use Rattle.code_reach.specs.Listing.{AreWords, IsListingError};
 ghost use Rattle.code_reach.specs.Found.{IsCode, IsCodeError};
@@ -14,14 +14,23 @@ use crate::range::range_fault;
 use crate::walk::reached;
 use code_reach_spec::CodeKind;
 use elf_read::Image;
+use indexmap::IndexSet;
 use std::alloc::Global;
 
-/// The word at an address of a function, unless the instruction is wrong.
-fn sound_word(image: &Image<'_>, entry: u32, size: u32, address: u32) -> Result<u32, CodeFault>
+/// The word at an address of a function, unless the instruction is wrong, where these are the
+/// targets that the function reaches.
+fn sound_word(
+    image: &Image<'_>,
+    entry: u32,
+    size: u32,
+    targets: &IndexSet<u32>,
+    address: u32,
+) -> Result<u32, CodeFault>
     requires { IsPlace entry size address }
     ensures word { IfOk result (λ found. word_at image.now address ≡ Some found) }
-    ensures sound { IfOk result (λ _. spec.fault_at image.now entry size address ≡ None) }
-    ensures fault { IfErr result (λ fault. spec.fault_at image.now entry size address
+    ensures sound { IfOk result (λ _. fault_among image.now entry size targets.now.keys address
+        ≡ None) }
+    ensures fault { IfErr result (λ fault. fault_among image.now entry size targets.now.keys address
         ≡ Some fault.kind) }
     ensures address { IfErr result (λ fault. fault.address ≡ address) }
 {
@@ -31,7 +40,7 @@ fn sound_word(image: &Image<'_>, entry: u32, size: u32, address: u32) -> Result<
             address,
         });
     };
-    match fault_at(image, entry, size, address) {
+    match fault_at(image, entry, size, targets, address) {
         Some(kind) => Err(CodeFault { kind, address }),
         None => Ok(found),
     }
@@ -43,17 +52,18 @@ fn words(
     image: &Image<'_>,
     entry: u32,
     size: u32,
+    targets: &IndexSet<u32>,
     addresses: &[u32],
 ) -> Result<Vec<(u32, u32)>, CodeError>
     requires { All (IsPlace entry size) addresses.now }
-    ensures listed { IfOk result
-        (λ words. AreWords image.now entry size addresses.now words.items) }
-    ensures fault { IfErr result
-        (λ error. IsListingError image.now entry size addresses.now error) }
+    ensures listed { IfOk result (λ words. AreWords image.now entry size targets.now.keys
+        addresses.now words.items) }
+    ensures fault { IfErr result (λ error. IsListingError image.now entry size targets.now.keys
+        addresses.now error) }
 {
     let mut words = Vec::new(alloc);
     for address in addresses {
-        let found = sound_word(image, entry, size, *address)?;
+        let found = sound_word(image, entry, size, targets, *address)?;
         words.push((*address, found))?;
     }
     Ok(words)
@@ -74,6 +84,7 @@ pub fn code(alloc: Global, image: &Image<'_>, entry: u32) -> Result<Vec<(u32, u3
             address: entry,
         }));
     }
-    let places = reached(alloc, image, entry, size)?;
-    words(alloc, image, entry, size, places.as_slice())
+    let mut targets = IndexSet::new(alloc);
+    let places = reached(alloc, &mut targets, image, entry, size)?;
+    words(alloc, image, entry, size, &targets, places.as_slice())
 }

@@ -6,8 +6,8 @@ ghost use Rattle.std.specs.Prelude.{sum_by, nat_eq, All, Contains, IfOk, IfErr, 
 ghost use Rattle.std.specs.Prelude.{IfSome, Some};
 ghost use Rattle.indexmap.specs.IndexMap.{get};
 ghost use Rattle.elf_read_spec.specs.Image.{size_at};
-ghost use Rattle.code_reach_spec.specs.Code.{IsCyclic, IsGreatest, opening_of};
-ghost use Rattle.code_reach.specs.Growth.{Grows, IsPlace, AreReached};
+ghost use Rattle.code_reach_spec.specs.Code.{IsCyclic, IsGreatest, opening_of, AreReachable};
+ghost use Rattle.code_reach.specs.Growth.{Grows, IsPlace};
 ghost use Rattle.code_reach.specs.Found.{IsDepth, IsReachError};
 ghost use Rattle.code_reach_spec.specs.Faults.{ReachesNoFault};
 ghost use Rattle.code_reach.specs.Stacks.{AreCalls, IsDeepest, IsOwnStack, IsTotal, IsEntered};
@@ -87,19 +87,20 @@ fn openings(image: &Image<'_>, addresses: &[u32]) -> u64
     sum
 }
 
-/// The addresses that are reached directly in a function, ascending; none where it has no code.
+/// The addresses that are reached in a function, ascending; none where it has no code.
 fn places(
     alloc: Global,
     image: &Image<'_>,
     entry: u32,
     size: u32,
 ) -> Result<IndexSet<u32>, AllocError>
-    ensures { IfOk result (λ places. AreReached image.now entry size places.keys) }
+    ensures { IfOk result (λ places. AreReachable image.now entry size places.keys) }
 {
     match range_fault(image, entry, size) {
         Some(_) => Ok(IndexSet::new(alloc)),
         None => {
-            let places = reached(alloc, image, entry, size)?;
+            let mut targets = IndexSet::new(alloc);
+            let places = reached(alloc, &mut targets, image, entry, size)?;
             Ok(places)
         }
     }

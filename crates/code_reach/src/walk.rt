@@ -1,13 +1,15 @@
-//! The addresses that a function reaches.
+//! The addresses that a function reaches, and the targets of the instructions there.
 
-ghost use Rattle.std.specs.Prelude.{◌≡◌, ◌+◌, ◌<◌, ◌≤◌, ◌^◌, ◌%◌, ◌∷◌, [], IfOk, OnOk};
+ghost use Rattle.std.specs.Prelude.{◌≡◌, ◌+◌, ◌<◌, ◌≤◌, ◌^◌, ◌%◌, ◌∷◌, [], IfOk, OnOk, Contains};
 ghost use Rattle.code_reach_spec.specs.Code as spec;
-ghost use Rattle.code_reach_spec.specs.Code.{HasCode};
+ghost use Rattle.code_reach_spec.specs.Code.{HasCode, AreReachable};
+ghost use Rattle.code_reach_spec.specs.Faults.{targets_of};
 ghost use Rattle.code_reach.specs.Flows.{flow_seen};
-ghost use Rattle.code_reach.specs.Growth.{Grows, IsInside, GoesTo, Reaches, AreReached};
+ghost use Rattle.code_reach.specs.Growth.{Grows, IsInside, GoesTo, HasTarget, AreAllReachable};
+ghost use Rattle.code_reach.specs.Growth.{AreTargets};
 
 use crate::faults::{has_next, is_in_range};
-use crate::flows::{Flow, direct_flow};
+use crate::flows::{Flow, flow_at};
 use elf_read::Image;
 use indexmap::IndexSet;
 use std::alloc::{AllocError, Global};
@@ -90,9 +92,25 @@ fn add_flow(
     }
 }
 
-/// Adds the addresses to which control may go directly from one of a function that has code.
+/// Adds the target of a branch, a jump or a link, wherever it lies; that of a call is none.
+fn add_targets(targets: &mut IndexSet<u32>, flow: Flow) -> Result<(), AllocError>
+    ensures { OnOk result (Grows (Contains
+        (targets_of (flow_seen flow))) targets.old.keys targets.new.keys) }
+{
+    match flow {
+        Flow::Branches(target) | Flow::Jumps(target) | Flow::Links(target) => {
+            add(targets, target)?;
+            Ok(())
+        }
+        Flow::Falls | Flow::Calls(_) | Flow::Returns | Flow::Stops => Ok(()),
+    }
+}
+
+/// Adds the addresses to which control may go from one of a function that has code, and the targets
+/// of the instruction there.
 fn follow(
     reached: &mut IndexSet<u32>,
+    targets: &mut IndexSet<u32>,
     image: &Image<'_>,
     entry: u32,
     size: u32,
@@ -102,52 +120,62 @@ fn follow(
     requires below { address < entry + size }
     requires in_space { entry + size ≤ 2 ^ 32 }
     requires whole { address + 4 ≤ 2 ^ 32 }
-    ensures { OnOk result (Grows (GoesTo image.now entry size address) reached.old.keys
+    ensures reached { OnOk result (Grows (GoesTo image.now entry size address) reached.old.keys
         reached.new.keys) }
+    ensures targets { OnOk result (Grows (HasTarget image.now entry address) targets.old.keys
+        targets.new.keys) }
 {
-    match direct_flow(image, address) {
+    match flow_at(image, entry, address) {
         None => Ok(()),
         Some(flow) => {
             add_flow(reached, entry, size, address, flow)?;
+            add_targets(targets, flow)?;
             Ok(())
         }
     }
 }
 
-/// Adds the addresses that are reached directly from the entry of a function that has code, each
-/// once.
+/// Adds the addresses that are reached from the entry of a function that has code, each once, and
+/// the targets of the instructions there.
 fn add_reached(
     reached: &mut IndexSet<u32>,
+    targets: &mut IndexSet<u32>,
     image: &Image<'_>,
     entry: u32,
     size: u32,
 ) -> Result<(), AllocError>
     requires none_yet { reached.old.keys ≡ [] }
+    requires no_targets { targets.old.keys ≡ [] }
     requires code { HasCode image.now entry size }
-    ensures { OnOk result (Reaches image.now entry size reached.new.keys) }
+    ensures reached { OnOk result (AreAllReachable image.now entry size reached.new.keys) }
+    ensures targets { OnOk result (AreTargets image.now entry size targets.new.keys) }
 {
     add(reached, entry)?;
     let mut next = 0;
     while next < reached.len() {
         let address = reached.as_slice()[next];
-        follow(reached, image, entry, size, address)?;
+        follow(reached, targets, image, entry, size, address)?;
         next += 1;
     }
     Ok(())
 }
 
-/// The addresses that are reached directly from the entry of a function that has code, ascending.
+/// The addresses that are reached from the entry of a function that has code, ascending. Adds the
+/// targets of the instructions there.
 pub(crate) fn reached(
     alloc: Global,
+    targets: &mut IndexSet<u32>,
     image: &Image<'_>,
     entry: u32,
     size: u32,
 ) -> Result<IndexSet<u32>, AllocError>
-    requires { HasCode image.now entry size }
-    ensures { IfOk result (λ reached. AreReached image.now entry size reached.keys) }
+    requires no_targets { targets.old.keys ≡ [] }
+    requires code { HasCode image.now entry size }
+    ensures reached { IfOk result (λ reached. AreReachable image.now entry size reached.keys) }
+    ensures targets { OnOk result (AreTargets image.now entry size targets.new.keys) }
 {
     let mut reached = IndexSet::new(alloc);
-    add_reached(&mut reached, image, entry, size)?;
+    add_reached(&mut reached, targets, image, entry, size)?;
     reached.sort()?;
     Ok(reached)
 }

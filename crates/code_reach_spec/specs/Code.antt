@@ -111,10 +111,13 @@ flow_of before address (Fence rd source bits) = Falls
 flow_of before address Ecall = Stops
 flow_of before address Ebreak = Stops
 
+-- the instruction before the one at an address, in the function at an entry: before the entry there is none
+abbrev pub instr_before : Image → (entry address : ℕ) → Option Instr
+instr_before image entry address = if nat_le (entry + 4) address then instr_at image (address - 4) else None
+
 -- the flow of the instruction at an address of the function at an entry
 unfoldable pub flow_at : Image → (entry address : ℕ) → Option Flow
-flow_at image entry address =
-    option_and_then (λ i. Some (flow_of (if nat_le (entry + 4) address then instr_at image (address - 4) else None) address i)) (instr_at image address)
+flow_at image entry address = option_and_then (λ i. Some (flow_of (instr_before image entry address) address i)) (instr_at image address)
 
 -- a target at no multiple of 4 traps
 abbrev pub aligned : ℕ → List ℕ

@@ -1,47 +1,56 @@
 -- What is wrong with the code of functions: each kind, exactly where, and which of several faults is the first.
---
--- Code is taken so far without AUIPC pairs and without tail calls. A pair's JALR is refused as Indirect, a tail call
--- as Leaves, and neither reaches anything. What is called direct here leaves them out; where no function that is
--- reached has a fault, it comes to the same as the words of Code.antt without "directly".
-use Rattle.std.specs.Prelude.{◌≡◌, ◌+◌, ◌<◌, ◌≤◌, ℕ, Bool, true, false, List, [], ◌∷◌, Contains, Option, Some, None, IsSome, option_and_then}
+use Rattle.std.specs.Prelude.{◌≡◌, ◌+◌, ◌<◌, ◌≤◌, ℕ, Bool, true, false, List, [], ◌∷◌, Contains, Some, None, IsSome}
 use Rattle.rv_instr.specs.declared.Instr.{Instr}
 use Rattle.rv_instr.specs.declared.Instr.TheVariants.{Jalr}
 use Rattle.memory_spec.specs.Zones.{zone_from, ZonesMeet}
 use Rattle.elf_read_spec.specs.Image.{Image, size_at}
 use Rattle.code_reach_spec.specs.declared.CodeKind.{CodeKind}
 use Rattle.code_reach_spec.specs.declared.CodeKind.TheVariants.{NoFunction, Ambiguous, Empty, Writable, Misplaced, Undecoded, Indirect, Leaves, Overlap}
-use Rattle.code_reach_spec.specs.Code.{instr_at, InRange, IsRangeFault, HasCode, Flow, Falls, Branches, Jumps, Calls, Links, Returns, Stops, flow_of, nexts_of}
+use Rattle.code_reach_spec.specs.Code.{instr_at, flow_at, InRange, IsRangeFault, Flow, Falls, Branches, Jumps, Calls, Links, Returns, Stops, IsReachable, Reaches}
 
--- ---- direct flow
+-- ---- the targets of a function
 
--- the flow of the instruction at an address where no pair is taken: it is looked at without the one before it
-unfoldable pub direct_flow : Image → (address : ℕ) → Option Flow
-direct_flow image address = option_and_then (λ i. Some (flow_of None address i)) (instr_at image address)
+-- where a branch, a jump or a link goes, as it stands. The target of a call is none of these
+abbrev pub targets_of : Flow → List ℕ
+targets_of Falls = []
+targets_of (Branches target) = target ∷ []
+targets_of (Jumps target) = target ∷ []
+targets_of (Calls target) = []
+targets_of (Links target) = target ∷ []
+targets_of Returns = []
+targets_of Stops = []
 
--- the addresses that are reached from the entry inside the range
-pub data IsDirectlyReachable (image : Image) (entry size : ℕ) : ℕ → Type 0 where
-  here : HasCode image entry size → IsDirectlyReachable image entry size entry
-  next : (address target : ℕ) (flow : Flow) → IsDirectlyReachable image entry size address → direct_flow image address ≡ Some flow
-      → Contains (nexts_of address flow) target → InRange entry size target → IsDirectlyReachable image entry size target
-
--- the function at an entry calls the function at another
-pub data CallsDirectly (image : Image) (entry size : ℕ) : ℕ → Type 0 where
-  call : (address target : ℕ) → IsDirectlyReachable image entry size address → direct_flow image address ≡ Some (Calls target)
-      → IsSome (size_at image target) → CallsDirectly image entry size target
-
--- the functions that calls reach from the one at an entry, itself among them
-pub data ReachesDirectly (image : Image) (entry : ℕ) : ℕ → Type 0 where
-  itself : ReachesDirectly image entry entry
-  further : (middle size target : ℕ) → ReachesDirectly image entry middle → size_at image middle ≡ Some size → CallsDirectly image middle size target
-      → ReachesDirectly image entry target
+-- the targets of the instructions that the function reaches
+pub data IsTarget (image : Image) (entry size : ℕ) : ℕ → Type 0 where
+  target_of_reached : (address target : ℕ) (flow : Flow) → IsReachable image entry size address → flow_at image entry address ≡ Some flow
+      → Contains (targets_of flow) target → IsTarget image entry size target
 
 -- ---- faults of one function
 
--- a JALR that is no return, or a JAL that keeps the return address in a register other than x1
+abbrev pub is_jalr : Instr → Bool
+is_jalr (Jalr rd base offset) = true
+is_jalr i = false
+
+-- a JALR that is no return and no AUIPC pair, or a JAL that keeps the return address in a register other than x1.
+-- Both words of a pair are in the function, so a JALR at its entry is none
 abbrev pub is_indirect : Instr → Flow → Bool
+is_indirect i Falls = false
+is_indirect i (Branches target) = false
+is_indirect i (Jumps target) = false
+is_indirect i (Calls target) = false
 is_indirect i (Links target) = true
-is_indirect (Jalr rd base offset) Stops = true
-is_indirect i flow = false
+is_indirect i Returns = false
+is_indirect i Stops = is_jalr i
+
+-- the JALR of an AUIPC pair
+abbrev pub is_pair : Instr → Flow → Bool
+is_pair i Falls = false
+is_pair i (Branches target) = false
+is_pair i (Jumps target) = is_jalr i
+is_pair i (Calls target) = is_jalr i
+is_pair i (Links target) = false
+is_pair i Returns = false
+is_pair i Stops = false
 
 -- where control goes by falling through, by a branch or by a jump, which is to lie in the range. A call comes back to
 -- the next instruction, which may lie outside
@@ -54,26 +63,35 @@ goes_to address (Links target) = []
 goes_to address Returns = []
 goes_to address Stops = []
 
--- what is wrong with the instruction at an address that is reached
-pub data IsInstructionFault (image : Image) (entry size address : ℕ) : CodeKind → Type 0 where
+-- a jump to the entry of a function: out of the range it is a tail call. A branch is none
+pub record IsJumpToEntry (image : Image) (flow : Flow) (target : ℕ) : Type 0 where
+  pub jumps : flow ≡ Jumps target
+  pub to_entry : IsSome (size_at image target)
+
+-- what is wrong with the instruction at an address that is reached, given the set of the targets that are reached
+pub data IsInstructionFault (image : Image) (entry size : ℕ) (IsReachedTarget : ℕ → Type 0) (address : ℕ) : CodeKind → Type 0 where
   -- a call's target is no entry
-  no_function : (target : ℕ) → direct_flow image address ≡ Some (Calls target) → size_at image target ≡ None
-      → IsInstructionFault image entry size address NoFunction
+  no_function : (target : ℕ) → flow_at image entry address ≡ Some (Calls target) → size_at image target ≡ None
+      → IsInstructionFault image entry size IsReachedTarget address NoFunction
   -- the word has no form
-  undecoded : instr_at image address ≡ None → IsInstructionFault image entry size address Undecoded
+  undecoded : instr_at image address ≡ None → IsInstructionFault image entry size IsReachedTarget address Undecoded
   -- it goes to an address that the file doesn't determine, or keeps the return address elsewhere than in x1
-  indirect : (i : Instr) → instr_at image address ≡ Some i → is_indirect i (flow_of None address i) ≡ true
-      → IsInstructionFault image entry size address Indirect
-  -- it goes out of the range
-  leaves : (flow : Flow) (target : ℕ) → direct_flow image address ≡ Some flow → Contains (goes_to address flow) target
-      → (InRange entry size target → ⊥) → IsInstructionFault image entry size address Leaves
+  indirect : (i : Instr) (flow : Flow) → instr_at image address ≡ Some i → flow_at image entry address ≡ Some flow
+      → is_indirect i flow ≡ true → IsInstructionFault image entry size IsReachedTarget address Indirect
+  -- the JALR of a pair can be come to without its AUIPC
+  without_auipc : (i : Instr) (flow : Flow) → instr_at image address ≡ Some i → flow_at image entry address ≡ Some flow
+      → is_pair i flow ≡ true → IsReachedTarget address → IsInstructionFault image entry size IsReachedTarget address Indirect
+  -- it goes out of the range, and not by a tail call
+  leaves : (flow : Flow) (target : ℕ) → flow_at image entry address ≡ Some flow → Contains (goes_to address flow) target
+      → (InRange entry size target → ⊥) → (IsJumpToEntry image flow target → ⊥)
+      → IsInstructionFault image entry size IsReachedTarget address Leaves
 
 -- what is wrong with the function at an entry, so many bytes long, and at which address: with its range, and then it
 -- has no instructions, or with an instruction that is reached
 pub data IsFunctionFault (image : Image) (entry size : ℕ) : CodeKind → (address : ℕ) → Type 0 where
   of_range : (kind : CodeKind) → IsRangeFault image entry size kind → IsFunctionFault image entry size kind entry
-  of_instruction : (kind : CodeKind) (address : ℕ) → IsDirectlyReachable image entry size address
-      → IsInstructionFault image entry size address kind → IsFunctionFault image entry size kind address
+  of_instruction : (kind : CodeKind) (address : ℕ) → IsReachable image entry size address
+      → IsInstructionFault image entry size (IsTarget image entry size) address kind → IsFunctionFault image entry size kind address
 
 -- the function has no fault
 abbrev pub HasNoFault : Image → (entry size : ℕ) → Type 0
@@ -88,10 +106,10 @@ RangesMeet entry size other other_size = ZonesMeet (zone_from entry size) (zone_
 -- what is wrong with the functions that are reached from the one at an entry: with one of them, or that two share
 -- bytes, and then it is reported at the greater entry
 pub data IsReachFault (image : Image) (entry : ℕ) : CodeKind → (address : ℕ) → Type 0 where
-  of_function : (other size : ℕ) (kind : CodeKind) (address : ℕ) → ReachesDirectly image entry other → size_at image other ≡ Some size
+  of_function : (other size : ℕ) (kind : CodeKind) (address : ℕ) → Reaches image entry other → size_at image other ≡ Some size
       → IsFunctionFault image other size kind address → IsReachFault image entry kind address
-  overlap : (lower lower_size upper upper_size : ℕ) → ReachesDirectly image entry lower → size_at image lower ≡ Some lower_size
-      → ReachesDirectly image entry upper → size_at image upper ≡ Some upper_size → lower < upper
+  overlap : (lower lower_size upper upper_size : ℕ) → Reaches image entry lower → size_at image lower ≡ Some lower_size
+      → Reaches image entry upper → size_at image upper ≡ Some upper_size → lower < upper
       → RangesMeet lower lower_size upper upper_size → IsReachFault image entry Overlap upper
 
 -- no function that is reached has a fault, and no two share bytes

@@ -1,21 +1,18 @@
 -- Nodes that are added one after the other are those of an instruction.
-use Rattle.std.proofs.Common.{◌≡◌, ◌≢◌, ◌∙◌, ℕ, ◌+◌, ◌%◌, ◌==◌, Bool, true, false, cond, if◌then◌else◌, refl, sym, ap, subst, List, [], ◌∷◌, ◌++◌, None, ℤ}
-use Rattle.std.proofs.lemmas.Bool.{ne_eqb}
+use Rattle.std.proofs.Common.{◌≡◌, ◌≢◌, ◌∙◌, ℕ, ◌+◌, ◌%◌, true, false, refl, sym, ap, List, [], ◌∷◌, ◌++◌}
 use Rattle.rv_instr.specs.declared.Instr.{Instr}
-use Rattle.rv_instr.specs.declared.Instr.TheVariants.{Jalr}
 use Rattle.rv_machine_spec.specs.Machine.{past}
-use Rattle.code_reach_spec.specs.Code.{Flow, flow_of, Falls, Branches, Jumps, Calls, Links, Returns, Stops}
+use Rattle.code_reach_spec.specs.Code.{Falls, Branches, Jumps, Calls, Links, Returns, Stops}
 use Rattle.term_core_spec.specs.Term.{Term}
 use Rattle.graph_core_spec.specs.declared.Next.{Next}
 use Rattle.graph_core_spec.specs.declared.Next.TheVariants as next
 use Rattle.graph_core_spec.specs.Graph.{Binding, Node, Basic, Cond, Call, Graph, with_nodes}
 use Rattle.decompile_spec.specs.InstructionTerms.{access_tests, returns_home, effects, branch_test}
-use Rattle.decompile_spec.specs.Blocks.{Following, call_nodes, Setting, toward, call_inputs}
+use Rattle.decompile_spec.specs.Blocks.{Of, Following, call_nodes, tail_call_nodes, Setting, leaves, toward, call_inputs, tail_inputs}
 use Rattle.decompile_laws.specs.Layout.{Item, block, blocks}
-use Rattle.decompile.specs.Items.{is_return_flow}
-use Rattle.decompile.specs.Settings.{asks, Stays}
+use Rattle.decompile.specs.Settings.{asks}
 use Rattle.decompile.proofs.Asked.{with-with}
-use Rattle.decompile.proofs.Parts.{falls_block, branch_block, jump_block, call_block, bad_call_block, lead_block, return_block, stop_block}
+use Rattle.decompile.proofs.Parts.{falls_block, branch_block, jump_block, tail_block, call_block, bad_call_block, lead_block, return_block, stop_block}
 
 -- nodes that are added are those that are expected
 pub added : (new old : Graph) (nodes expected : List Node) → new ≡ with_nodes old nodes → nodes ≡ expected → new ≡ with_nodes old expected
@@ -26,6 +23,11 @@ pub added_twice : (new middle old : Graph) (first second expected : List Node) �
     → new ≡ with_nodes old expected
 added_twice new middle old first second expected so more same =
     more ∙ ap (λ (g : Graph). with_nodes g second) so ∙ with-with old first second ∙ ap (with_nodes old) same
+
+-- a test that the return address is as it was
+pub home_added : (new old : Graph) (test : Term) (on_true : Next) → test ≡ returns_home → new ≡ with_nodes old (Cond test on_true next.Err ∷ [])
+    → new ≡ with_nodes old (Cond returns_home on_true next.Err ∷ [])
+home_added new old test on_true is so = added new old (Cond test on_true next.Err ∷ []) _ so (ap (λ (t : Term). Cond t on_true next.Err ∷ []) is)
 
 module _ (f : Setting) (address : ℕ) (i : Instr) (new old : Graph) where
   pub step_added : (middle : Graph) (tests : List Term) (bindings : List Binding) (to : Next) → middle ≡ with_nodes old (asks f address 0 tests)
@@ -64,57 +66,37 @@ module _ (f : Setting) (address : ℕ) (i : Instr) (new old : Graph) where
       ∙ ap (λ (n : Next). Cond (branch_test i) (toward f target) n ∷ []) false_is
       ∙ sym (branch_block f address i target))
 
-  pub return_added : (returns : Bool) (test : Term) → returns ≡ true → test ≡ returns_home → new ≡ with_nodes old (Cond test next.Ret next.Err ∷ [])
-      → new ≡ with_nodes old (block f (record { address = address; instruction = i; flow = cond returns Returns Stops }))
-  return_added true test holds is so = added new old (Cond test next.Ret next.Err ∷ []) _ so (ap (λ (t : Term). Cond t next.Ret next.Err ∷ []) is ∙ sym (return_block f address i))
-  return_added false test holds is so = absurd cc
+  pub jump_added : (target : ℕ) (to : Next) → leaves f target ≡ false → to ≡ toward f target → new ≡ with_nodes old (Basic [] to ∷ [])
+      → new ≡ with_nodes old (block f (record { address = address; instruction = i; flow = Jumps target }))
+  jump_added target to stays to_is so =
+      added new old (Basic [] to ∷ []) _ so (ap (λ (n : Next). Basic [] n ∷ []) to_is ∙ sym (jump_block f address i target stays))
 
-  pub stop_added : (returns : Bool) → returns ≡ false → new ≡ with_nodes old (Basic [] next.Err ∷ [])
-      → new ≡ with_nodes old (block f (record { address = address; instruction = i; flow = cond returns Returns Stops }))
-  stop_added true holds so = absurd cc
-  stop_added false holds so = added new old (Basic [] next.Err ∷ []) _ so (sym (stop_block f address i))
+  pub tail_call_added : (target call callee landing : ℕ) (middle last : Graph) (inputs outputs : List Binding) → leaves f target ≡ true → outputs ≡ []
+      → call ≡ f.at (Of address 1) → callee ≡ f.graph_number target → inputs ≡ tail_inputs → landing ≡ f.at (Following address tail_call_nodes)
+      → middle ≡ with_nodes old (Cond returns_home (next.At call) next.Err ∷ []) → last ≡ with_nodes middle (Call callee inputs outputs landing ∷ [])
+      → new ≡ with_nodes last (Basic [] next.Ret ∷ []) → new ≡ with_nodes old (block f (record { address = address; instruction = i; flow = Jumps target }))
+  tail_call_added target call callee landing middle last inputs outputs leaves_it outputs_are call_is callee_is inputs_are landing_is so then finally =
+      added_twice new middle old (Cond returns_home (next.At call) next.Err ∷ []) (Call callee inputs outputs landing ∷ Basic [] next.Ret ∷ []) _ so
+      (added_twice new last middle (Call callee inputs outputs landing ∷ []) (Basic [] next.Ret ∷ []) _ then finally refl)
+      (ap (λ (n : ℕ). Cond returns_home (next.At n) next.Err ∷ (Call callee inputs outputs landing ∷ Basic [] next.Ret ∷ [])) call_is
+      ∙ ap (λ (bs : List Binding). Cond returns_home (next.At (f.at (Of address 1))) next.Err ∷ (Call callee inputs bs landing ∷ Basic [] next.Ret ∷ [])) outputs_are
+      ∙ ap (λ (n : ℕ). Cond returns_home (next.At (f.at (Of address 1))) next.Err ∷ (Call n inputs [] landing ∷ Basic [] next.Ret ∷ [])) callee_is
+      ∙ ap (λ (bs : List Binding). Cond returns_home (next.At (f.at (Of address 1))) next.Err ∷ (Call (f.graph_number target) bs [] landing ∷ Basic [] next.Ret ∷ [])) inputs_are
+      ∙ ap (λ (n : ℕ). Cond returns_home (next.At (f.at (Of address 1))) next.Err ∷ (Call (f.graph_number target) tail_inputs [] n ∷ Basic [] next.Ret ∷ [])) landing_is
+      ∙ sym (tail_block f address i target leaves_it))
 
--- the flow of a JAL
-abbrev pub jal_flow : (rd target : ℕ) → Flow
-jal_flow rd target = if rd == 0 then Jumps target else if rd == 1 then Calls target else Links target
+  -- nothing but a node of an error, and nothing but a test
+  pub lead_added : (target : ℕ) → new ≡ with_nodes old (Basic [] next.Err ∷ []) → new ≡ with_nodes old (block f (record { address = address; instruction = i; flow = Links target }))
+  lead_added target so = added new old (Basic [] next.Err ∷ []) _ so (sym (lead_block f address i target))
 
--- by a flow that is known
-pub with_flow : (f : Setting) (address : ℕ) (i : Instr) (new old : Graph) (flow other : Flow) → flow ≡ other
-    → new ≡ with_nodes old (block f (record { address = address; instruction = i; flow = other }))
-    → new ≡ with_nodes old (block f (record { address = address; instruction = i; flow = flow }))
-with_flow f address i new old flow other same so =
-    so ∙ ap (λ (fl : Flow). with_nodes old (block f (record { address = address; instruction = i; flow = fl }))) (sym same)
+  pub stop_added : new ≡ with_nodes old (Basic [] next.Err ∷ []) → new ≡ with_nodes old (block f (record { address = address; instruction = i; flow = Stops }))
+  stop_added so = added new old (Basic [] next.Err ∷ []) _ so (sym (stop_block f address i))
+
+  pub return_added : new ≡ with_nodes old (Cond returns_home next.Ret next.Err ∷ []) → new ≡ with_nodes old (block f (record { address = address; instruction = i; flow = Returns }))
+  return_added so = added new old (Cond returns_home next.Ret next.Err ∷ []) _ so (sym (return_block f address i))
 
 -- one instruction more
 pub block_added : (f : Setting) (new old expected : Graph) (item : Item) (rest : List Item) → new ≡ with_nodes old (block f item)
     → with_nodes old (blocks f (item ∷ rest)) ≡ expected → with_nodes new (blocks f rest) ≡ expected
 block_added f new old expected item rest so whole =
     ap (λ (g : Graph). with_nodes g (blocks f rest)) so ∙ with-with old (block f item) (blocks f rest) ∙ whole
-
-module _ (f : Setting) (address : ℕ) (i : Instr) (new old : Graph) where
-  pub jump_added : (rd target : ℕ) (to : Next) → rd ≡ 0 → Stays f (jal_flow rd target) → to ≡ toward f target → new ≡ with_nodes old (Basic [] to ∷ [])
-      → new ≡ with_nodes old (block f (record { address = address; instruction = i; flow = jal_flow rd target }))
-  jump_added rd target to e stays to_is so =
-      with_flow f address i new old (jal_flow rd target) (Jumps target) (ap (λ (r : ℕ). jal_flow r target) e)
-      (added new old (Basic [] to ∷ []) _ so
-      (ap (λ (n : Next). Basic [] n ∷ []) to_is
-      ∙ sym (jump_block f address i target (subst (λ (r : ℕ). Stays f (jal_flow r target)) e stays))))
-
-  pub lead_added : (rd target : ℕ) → rd ≢ 0 → rd ≢ 1 → new ≡ with_nodes old (Basic [] next.Err ∷ [])
-      → new ≡ with_nodes old (block f (record { address = address; instruction = i; flow = jal_flow rd target }))
-  lead_added rd target some other so =
-      let flow : jal_flow rd target ≡ Links target =
-      ap (λ (b : Bool). if b then Jumps target else if rd == 1 then Calls target else Links target) (ne_eqb rd 0 some)
-      ∙ ap (λ (b : Bool). if b then Calls target else Links target) (ne_eqb rd 1 other) in
-      with_flow f address i new old (jal_flow rd target) (Links target) flow
-      (added new old (Basic [] next.Err ∷ []) _ so (sym (lead_block f address i target)))
-
-by_choice : (b : Bool) → cond b Returns Stops ≡ cond (is_return_flow (cond b Returns Stops)) Returns Stops
-by_choice true = refl
-by_choice false = refl
-
--- the flow of a JALR
-pub jalr_flow : (address : ℕ) (i : Instr) (rd base : ℕ) (offset : ℤ) → i ≡ Jalr rd base offset
-    → flow_of None address i ≡ cond (is_return_flow (flow_of None 0 i)) Returns Stops
-jalr_flow address i rd base offset is =
-    subst (λ (j : Instr). flow_of None address j ≡ cond (is_return_flow (flow_of None 0 j)) Returns Stops) (sym is) (by_choice _)

@@ -12,7 +12,7 @@ use Rattle.decompile.specs.declared.items.Item.{Item}
 use Rattle.decompile.specs.declared.error.GraphError.{GraphError}
 use Rattle.decompile.specs.declared.error.GraphError.TheVariants.{Fault, Unlisted, Large, NoMemory}
 use Rattle.decompile.specs.Items.{item_of, AreInstructions}
-use Rattle.decompile.specs.Answer.{setting, IsFunctionGraph}
+use Rattle.decompile.specs.Answer.{setting, counting, IsFunctionGraph}
 use Rattle.decompile.specs.Callees.{IsListed}
 use Rattle.decompile.specs.Counts.{numbered, counted, IsTooMany}
 use Rattle.decompile.specs.Errors.{IsGraphError}
@@ -21,22 +21,22 @@ use Rattle.decompile.proofs.Listed.{all_listed}
 use Rattle.decompile.proofs.Whole.{sized, whole, made_counted}
 
 module _ (image : Image) (entry size : ℕ) (entries : List ℕ) (items : List Item) (extents : List Extent) (size_is : size_at image entry ≡ Some size)
-    (found : AreInstructions image entry items × All (IsListed entries) items) (have : HaveExtents image extents) where
+    (found : AreInstructions image entry items × All (IsListed entry size entries) items) (have : HaveExtents image extents) where
   are : HasNoFault image entry size × AreItems image entry size (map item_of items)
   are = sized image entry size items found.0 size_is
 
   listed : (address callee : ℕ) → IsCall image entry size address callee → Contains entries callee
   listed = all_listed image entry size entries items size_is are.0 are.1 found.1
 
-  module _ (firsts : List (ℕ × ℕ)) (graph : Graph) (numbers : firsts ≡ numbered (length extents) 1 (map item_of items))
+  module _ (firsts : List (ℕ × ℕ)) (graph : Graph) (numbers : firsts ≡ numbered (counting entry size (length extents)) 1 (map item_of items))
       (made : graph ≡ laid (setting entry size (map run_of extents) entries firsts) (map item_of items)) where
     pub answered : LaidAreCodeGraphs → CodeGraphsAreValid → IsFunctionGraph image entry entries graph firsts
     answered = whole image entry size entries (map item_of items) extents firsts graph are.0 listed are.1 have numbers made size_is
 
-    pub answered_size : length graph.nodes ≡ counted (length extents) 1 (map item_of items)
+    pub answered_size : length graph.nodes ≡ counted (counting entry size (length extents)) 1 (map item_of items)
     answered_size = made_counted image entry size entries (map item_of items) extents firsts graph are.0 listed are.1 have numbers made
 
-  pub too_many : LaidAreCodeGraphs → CodeGraphsAreValid → (maximum : ℕ) (error : GraphError) → IsTooMany (length extents) maximum (map item_of items) error
+  pub too_many : LaidAreCodeGraphs → CodeGraphsAreValid → (maximum : ℕ) (error : GraphError) → IsTooMany (counting entry size (length extents)) maximum (map item_of items) error
       → IsGraphError image entry entries maximum error
   too_many layout valid maximum (Fault fault) is = absurd is
   too_many layout valid maximum (Unlisted address callee) is = absurd is
@@ -50,4 +50,4 @@ module _ (image : Image) (entry size : ℕ) (entries : List ℕ) (items : List I
   }
     where
       firsts : List (ℕ × ℕ)
-      firsts = numbered (length extents) 1 (map item_of items)
+      firsts = numbered (counting entry size (length extents)) 1 (map item_of items)

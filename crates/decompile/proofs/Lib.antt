@@ -12,3 +12,4 @@ mod Whole
 mod Counted
 mod Listed
 mod Answered
+mod Aligned

@@ -7,23 +7,21 @@ use Rattle.std.proofs.lemmas.List.Kept.{AllPairs-from_increasing}
 use Rattle.std.proofs.lemmas.Option.{same_Some}
 use Rattle.rv_instr.specs.declared.Instr.TheVariants as instr
 use Rattle.elf_read_spec.specs.Image.{Image, size_at}
-use Rattle.code_reach_spec.specs.Code.{Flow, Falls, Branches, Jumps, Calls, Links, Returns, Stops, flow_at}
+use Rattle.code_reach_spec.specs.Code.{flow_at}
 use Rattle.code_reach_spec.specs.Faults.{HasNoFault}
+use Rattle.code_reach.specs.declared.flows.Flow.TheVariants as flows
 use Rattle.code_reach.specs.Found.{IsCodeError}
 use Rattle.code_reach.specs.declared.faults.CodeError.{CodeError}
 use Rattle.code_reach.specs.declared.faults.CodeError.TheVariants as code
-use Rattle.decompile_spec.specs.Blocks.{Setting, callee_of}
+use Rattle.decompile_spec.specs.Blocks.{callee_of}
 use Rattle.decompile_spec.specs.CodeGraph.{IsCall}
 use Rattle.decompile_laws.specs.Layout.{Item, AreItems}
 use Rattle.decompile.specs.declared.items.Item.{Item as CodeItem}
 use Rattle.decompile.specs.declared.error.GraphError.{GraphError}
 use Rattle.decompile.specs.declared.error.GraphError.TheVariants.{Fault, Unlisted, Large, NoMemory}
 use Rattle.decompile.specs.Items.{item_of}
-use Rattle.decompile.specs.Answer.{setting}
-use Rattle.decompile.specs.Callees.{called, callee_of_item, IsListed, IsFirstUnlisted}
+use Rattle.decompile.specs.Callees.{callee_of_item, IsListed, IsFirstUnlisted}
 use Rattle.decompile.specs.Errors.{error_of, IsGraphError}
-use Rattle.decompile.specs.Settings.{Stays}
-use Rattle.decompile.proofs.Whole.{stays}
 
 pub code_error : (image : Image) (entry : ℕ) (entries : List ℕ) (maximum : ℕ) (error : CodeError) → IsCodeError image entry error → IsGraphError image entry entries maximum (error_of error)
 code_error image entry entries maximum (code.Fault fault) is = is
@@ -31,35 +29,19 @@ code_error image entry entries maximum code.NoMemory is = tt
 
 module _ (image : Image) (entry size : ℕ) (entries : List ℕ) (items : List CodeItem) (size_is : size_at image entry ≡ Some size) (sound : HasNoFault image entry size)
     (are : AreItems image entry size (map item_of items)) where
-  abbrev f : Setting
-  f = setting entry size [] entries []
-
-  same_callee : (flow : Flow) → Stays f flow → callee_of entry size flow ≡ called flow
-  unfolding callee_of
-  same_callee Falls s = refl
-  same_callee (Branches target) s = refl
-  same_callee (Jumps target) s = rw s refl
-  same_callee (Calls target) s = refl
-  same_callee (Links target) s = refl
-  same_callee Returns s = refl
-  same_callee Stops s = refl
-
-  stays_of : (item : Item) → Contains (map item_of items) item → Stays f item.flow
-  stays_of item among = stays image f item sound (are.reached item among) (are.instructions item among) (are.flows item among)
-
   -- the instruction of a call
   record Found (address callee : ℕ) : Type 0 where
     index : ℕ
     within : index < length items
     address_is : (d : CodeItem) → (get_or items index d).address ≡ address
-    calls : (d : CodeItem) → callee_of_item (get_or items index d) ≡ Some callee
+    calls : (d : CodeItem) → callee_of_item entry size (get_or items index d) ≡ Some callee
 
   found : (address callee : ℕ) → IsCall image entry size address callee → Found address callee
   found address callee call = record {
     index = it.1.0;
     within = short;
     address_is = λ d. ap (λ (x : Item). x.address) (same d) ∙ it.2;
-    calls = λ d. ap (λ (x : Item). called x.flow) (same d) ∙ calls_it;
+    calls = λ d. ap (λ (x : Item). callee_of entry size x.flow) (same d) ∙ calls_it;
   }
     where
       it : (item : Item) × Contains (map item_of items) item × (item.address ≡ address)
@@ -74,19 +56,19 @@ module _ (image : Image) (entry size : ℕ) (entries : List ℕ) (items : List C
       flow_same : it.0.flow ≡ call.flow
       flow_same = same_Some it.0.flow call.flow (sym (are.flows it.0 it.1) ∙ ap (flow_at image entry) it.2 ∙ call.flow_is)
 
-      calls_it : called it.0.flow ≡ Some callee
-      calls_it = sym (same_callee it.0.flow (stays_of it.0 it.1)) ∙ ap (callee_of entry size) flow_same ∙ call.calls
+      calls_it : callee_of entry size it.0.flow ≡ Some callee
+      calls_it = ap (callee_of entry size) flow_same ∙ call.calls
 
-  pub all_listed : All (IsListed entries) items → (address callee : ℕ) → IsCall image entry size address callee → Contains entries callee
+  pub all_listed : All (IsListed entry size entries) items → (address callee : ℕ) → IsCall image entry size address callee → Contains entries callee
   all_listed listed address callee call =
       let it = found address callee call in
       let d : CodeItem = get_or_none it.index in
       listed it.index d it.within callee (it.calls d)
     where
       get_or_none : ℕ → CodeItem
-      get_or_none k = record { address = 0; instruction = instr.Ecall }
+      get_or_none k = record { address = 0; instruction = instr.Ecall; flow = flows.Stops }
 
-  pub first_unlisted : (maximum : ℕ) (error : GraphError) → IsFirstUnlisted entries items error → IsGraphError image entry entries maximum error
+  pub first_unlisted : (maximum : ℕ) (error : GraphError) → IsFirstUnlisted entry size entries items error → IsGraphError image entry entries maximum error
   first_unlisted maximum (Fault fault) o = absurd o.unlisted
   first_unlisted maximum (Large count) o = absurd o.unlisted
   first_unlisted maximum NoMemory o = absurd o.unlisted
@@ -98,7 +80,7 @@ module _ (image : Image) (entry size : ℕ) (entries : List ℕ) (items : List C
       flow = it.flow;
       reached = are.reached it among;
       flow_is = are.flows it among;
-      calls = same_callee it.flow (stays_of it among) ∙ o.unlisted.1;
+      calls = o.unlisted.1;
     });
     missing = o.unlisted.2;
     first = earlier;

@@ -17,8 +17,8 @@ use Rattle.decompile.specs.declared.items.Item.{Item as CodeItem}
 use Rattle.decompile.specs.Items.{item_of}
 use Rattle.decompile.specs.Answer.{first_in}
 use Rattle.decompile.specs.Counts.{further_nodes, numbered}
-use Rattle.decompile.specs.Settings.{Stays}
-use Rattle.decompile.proofs.Sizes.{block_long}
+use Rattle.decompile.specs.declared.numbers.Counting.{Counting}
+use Rattle.decompile.proofs.Sizes.{counting_of, block_long}
 
 abbrev pub key : ℕ × ℕ → ℕ
 key p = p.0
@@ -72,24 +72,24 @@ insert_new (e ∷ es) k v none = at (nat_eq k e.0) none (insert_new es k v)
 
 -- ---- the numbered instructions
 
-module _ (runs : ℕ) where
-  pub keys-numbered : (n : ℕ) (items : List Item) → map key (numbered runs n items) ≡ map (λ (item : Item). item.address) items
+module _ (by : Counting) where
+  pub keys-numbered : (n : ℕ) (items : List Item) → map key (numbered by n items) ≡ map (λ (item : Item). item.address) items
   keys-numbered n [] = refl
-  keys-numbered n (item ∷ rest) = ap (λ (xs : List ℕ). item.address ∷ xs) (keys-numbered (n + (further_nodes runs item + 1)) rest)
+  keys-numbered n (item ∷ rest) = ap (λ (xs : List ℕ). item.address ∷ xs) (keys-numbered (n + (further_nodes by item + 1)) rest)
 
   -- each instruction that is numbered, and each number's instruction
-  item_of_key : (n : ℕ) (items : List Item) (address number : ℕ) → Contains (numbered runs n items) (address, number) → (item : Item) × Contains items item × (item.address ≡ address)
+  item_of_key : (n : ℕ) (items : List Item) (address number : ℕ) → Contains (numbered by n items) (address, number) → (item : Item) × Contains items item × (item.address ≡ address)
   item_of_key n [] address number (k, below, is) = absurd (omega arith)
   item_of_key n (item ∷ rest) address number (zero, below, is) = (item, (0, omega arith, refl), ap key is)
   item_of_key n (item ∷ rest) address number (suc k, below, is) =
-      let found = item_of_key (n + (further_nodes runs item + 1)) rest address number (k, omega arith, is) in
+      let found = item_of_key (n + (further_nodes by item + 1)) rest address number (k, omega arith, is) in
       (found.0, (suc found.1.0, omega (arith, found.1.1), found.1.2), found.2)
 
-  key_of_item : (n : ℕ) (items : List Item) (item : Item) → Contains items item → (number : ℕ) × Contains (numbered runs n items) (item.address, number)
+  key_of_item : (n : ℕ) (items : List Item) (item : Item) → Contains items item → (number : ℕ) × Contains (numbered by n items) (item.address, number)
   key_of_item n [] item (k, below, is) = absurd (omega arith)
   key_of_item n (x ∷ rest) item (zero, below, is) = (n, (0, omega arith, ap (λ (i : Item). (i.address, n)) is))
   key_of_item n (x ∷ rest) item (suc k, below, is) =
-      let found = key_of_item (n + (further_nodes runs x + 1)) rest item (k, omega arith, is) in
+      let found = key_of_item (n + (further_nodes by x + 1)) rest item (k, omega arith, is) in
       (found.0, (suc found.1.0, omega (arith, found.1.1), found.1.2))
 
 pub same_keys : (items : List CodeItem) → map (λ (item : Item). item.address) (map item_of items) ≡ map (λ (item : CodeItem). item.address) items
@@ -97,37 +97,36 @@ same_keys [] = refl
 same_keys (item ∷ items) = ap (λ (xs : List ℕ). item.address ∷ xs) (same_keys items)
 
 -- one instruction more is numbered
-pub next_numbered : (runs n next further : ℕ) (old new : List (ℕ × ℕ)) (item : Item) (rest all : List Item) → new ≡ insert_entry nat_eq old item.address n
-    → further ≡ further_nodes runs item → next ≡ n + (further + 1) → old ++ numbered runs n (item ∷ rest) ≡ numbered runs 1 all
-    → IsStrictlyIncreasing (map (λ (item : Item). item.address) all) → new ++ numbered runs next rest ≡ numbered runs 1 all
-next_numbered runs n next further old new item rest all inserted further_is next_is whole up =
-    let keys : map key old ++ item.address ∷ map key (numbered runs (n + (further_nodes runs item + 1)) rest) ≡ map (λ (item : Item). item.address) all =
-    sym (map-append key old (numbered runs n (item ∷ rest))) ∙ ap (map key) whole ∙ keys-numbered runs 1 all in
+pub next_numbered : (by : Counting) (n next further : ℕ) (old new : List (ℕ × ℕ)) (item : Item) (rest all : List Item) → new ≡ insert_entry nat_eq old item.address n
+    → further ≡ further_nodes by item → next ≡ n + (further + 1) → old ++ numbered by n (item ∷ rest) ≡ numbered by 1 all
+    → IsStrictlyIncreasing (map (λ (item : Item). item.address) all) → new ++ numbered by next rest ≡ numbered by 1 all
+next_numbered by n next further old new item rest all inserted further_is next_is whole up =
+    let keys : map key old ++ item.address ∷ map key (numbered by (n + (further_nodes by item + 1)) rest) ≡ map (λ (item : Item). item.address) all =
+    sym (map-append key old (numbered by n (item ∷ rest))) ∙ ap (map key) whole ∙ keys-numbered by 1 all in
     let none : lookup (nat_eq item.address) old ≡ None =
-    absent old item.address (map key (numbered runs (n + (further_nodes runs item + 1)) rest)) (map (λ (item : Item). item.address) all) keys up in
+    absent old item.address (map key (numbered by (n + (further_nodes by item + 1)) rest)) (map (λ (item : Item). item.address) all) keys up in
     let one : new ≡ old ++ (item.address, n) ∷ [] = inserted ∙ insert_new old item.address n none in
-    let at : next ≡ n + (further_nodes runs item + 1) = next_is ∙ ap (λ k. n + (k + 1)) further_is in
-    ap (λ (es : List (ℕ × ℕ)). es ++ numbered runs next rest) one
-    ∙ ap (λ k. (old ++ (item.address, n) ∷ []) ++ numbered runs k rest) at
-    ∙ append_assoc old ((item.address, n) ∷ []) (numbered runs (n + (further_nodes runs item + 1)) rest)
+    let at : next ≡ n + (further_nodes by item + 1) = next_is ∙ ap (λ k. n + (k + 1)) further_is in
+    ap (λ (es : List (ℕ × ℕ)). es ++ numbered by next rest) one
+    ∙ ap (λ k. (old ++ (item.address, n) ∷ []) ++ numbered by k rest) at
+    ∙ append_assoc old ((item.address, n) ∷ []) (numbered by (n + (further_nodes by item + 1)) rest)
     ∙ whole
 
 -- ---- a layout's numbers
 
 module _ (f : Setting) (firsts : List (ℕ × ℕ)) (up : IsStrictlyIncreasing (map key firsts)) where
-  pub are_numbered : (front : List (ℕ × ℕ)) (n : ℕ) (items : List Item) → front ++ numbered (length f.runs) n items ≡ firsts
-      → ((item : Item) → Contains items item → Stays f item.flow) → AreNumbered f (first_in firsts) n items
+  pub are_numbered : (front : List (ℕ × ℕ)) (n : ℕ) (items : List Item) → front ++ numbered (counting_of f) n items ≡ firsts
+      → AreNumbered f (first_in firsts) n items
   unfolding AreNumbered
-  are_numbered front n [] whole stay = tt
-  are_numbered front n (item ∷ rest) whole stay =
-      let next : ℕ = n + (further_nodes (length f.runs) item + 1) in
-      let long : n + (further_nodes (length f.runs) item + 1) ≡ n + length (block f item) =
-      ap (λ (k : ℕ). n + k) (sym (block_long f item (stay item (0, omega arith, refl)))) in
-      let onward : AreNumbered f (first_in firsts) (n + (further_nodes (length f.runs) item + 1)) rest =
-      are_numbered (front ++ (item.address, n) ∷ []) (n + (further_nodes (length f.runs) item + 1)) rest
-      (append_assoc front ((item.address, n) ∷ []) (numbered (length f.runs) (n + (further_nodes (length f.runs) item + 1)) rest) ∙ whole)
-      (λ other (k, below, is). stay other (suc k, omega arith, is)) in (
-        there front item.address n (numbered (length f.runs) (n + (further_nodes (length f.runs) item + 1)) rest) firsts whole up,
+  are_numbered front n [] whole = tt
+  are_numbered front n (item ∷ rest) whole =
+      let next : ℕ = n + (further_nodes (counting_of f) item + 1) in
+      let long : n + (further_nodes (counting_of f) item + 1) ≡ n + length (block f item) =
+      ap (λ (k : ℕ). n + k) (sym (block_long f item)) in
+      let onward : AreNumbered f (first_in firsts) (n + (further_nodes (counting_of f) item + 1)) rest =
+      are_numbered (front ++ (item.address, n) ∷ []) (n + (further_nodes (counting_of f) item + 1)) rest
+      (append_assoc front ((item.address, n) ∷ []) (numbered (counting_of f) (n + (further_nodes (counting_of f) item + 1)) rest) ∙ whole) in (
+        there front item.address n (numbered (counting_of f) (n + (further_nodes (counting_of f) item + 1)) rest) firsts whole up,
         subst (λ (k : ℕ). AreNumbered f (first_in firsts) k rest) long onward,
       )
 
@@ -140,12 +139,12 @@ place_of (x ∷ es) e (suc k, below, is) =
     let found = place_of es e (k, omega arith, is) in
     (x ∷ found.0, found.1, ap (λ (ys : List (ℕ × ℕ)). x ∷ ys) found.2)
 
-pub are_first_nodes : (image : Image) (f : Setting) (runs : ℕ) (items : List Item) (firsts : List (ℕ × ℕ)) → AreItems image f.entry f.size items
-    → firsts ≡ numbered runs 1 items → ((address index : ℕ) → f.at (Of address index) ≡ first_in firsts address + index) → AreFirstNodes image f firsts
-are_first_nodes image f runs items firsts are numbers by = record { rising = up; exactly = λ address number. (reached address number, listed address number) }
+pub are_first_nodes : (image : Image) (f : Setting) (by : Counting) (items : List Item) (firsts : List (ℕ × ℕ)) → AreItems image f.entry f.size items
+    → firsts ≡ numbered by 1 items → ((address index : ℕ) → f.at (Of address index) ≡ first_in firsts address + index) → AreFirstNodes image f firsts
+are_first_nodes image f by items firsts are numbers at = record { rising = up; exactly = λ address number. (reached address number, listed address number) }
   where
     keys : map key firsts ≡ map (λ (item : Item). item.address) items
-    keys = ap (map key) numbers ∙ keys-numbered runs 1 items
+    keys = ap (map key) numbers ∙ keys-numbered by 1 items
 
     up : IsStrictlyIncreasing (map key firsts)
     up = subst (λ (xs : List ℕ). IsStrictlyIncreasing xs) (sym keys) are.rising
@@ -153,17 +152,17 @@ are_first_nodes image f runs items firsts are numbers by = record { rising = up;
     number_is : (address number : ℕ) → Contains firsts (address, number) → number ≡ f.at (Of address 0)
     number_is address number among =
         let place = place_of firsts (address, number) among in
-        omega (arith, by address 0, there place.0 address number place.1 firsts place.2 up)
+        omega (arith, at address 0, there place.0 address number place.1 firsts place.2 up)
 
     reached : (address number : ℕ) → Contains firsts (address, number) → IsReachable image f.entry f.size address × (number ≡ f.at (Of address 0))
     reached address number among =
-        let found = item_of_key runs 1 items address number (subst (λ (es : List (ℕ × ℕ)). Contains es (address, number)) numbers among) in
+        let found = item_of_key by 1 items address number (subst (λ (es : List (ℕ × ℕ)). Contains es (address, number)) numbers among) in
         (subst (λ (a : ℕ). IsReachable image f.entry f.size a) found.2 (are.reached found.0 found.1), number_is address number among)
 
     listed : (address number : ℕ) → IsReachable image f.entry f.size address × (number ≡ f.at (Of address 0)) → Contains firsts (address, number)
     listed address number (there_is, is) =
         let found = are.all address there_is in
-        let entry = key_of_item runs 1 items found.0 found.1 in
+        let entry = key_of_item by 1 items found.0 found.1 in
         let among : Contains firsts (address, entry.0) =
         subst (λ (a : ℕ). Contains firsts (a, entry.0)) found.2 (subst (λ (es : List (ℕ × ℕ)). Contains es (found.0.address, entry.0)) (sym numbers) entry.1) in
         subst (λ (n : ℕ). Contains firsts (address, n)) (number_is address entry.0 among ∙ sym is) among

@@ -1,5 +1,5 @@
 -- The nodes of an instruction, flow by flow.
-use Rattle.std.proofs.Common.{◌≡◌, ◌≢◌, ◌∙◌, ℕ, ◌+◌, ◌%◌, false, refl, eq-eqb, [], ◌∷◌, ◌++◌}
+use Rattle.std.proofs.Common.{◌≡◌, ◌≢◌, ◌∙◌, ℕ, ◌+◌, ◌%◌, true, false, refl, eq-eqb, [], ◌∷◌, ◌++◌}
 use Rattle.std.proofs.lemmas.Bool.{ne_eqb}
 use Rattle.std.proofs.lemmas.List.{append-nil}
 use Rattle.rv_instr.specs.declared.Instr.{Instr}
@@ -8,7 +8,7 @@ use Rattle.code_reach_spec.specs.Code.{Falls, Branches, Jumps, Calls, Links, Ret
 use Rattle.graph_core_spec.specs.declared.Next.TheVariants as next
 use Rattle.graph_core_spec.specs.Graph.{Basic, Cond, Call}
 use Rattle.decompile_spec.specs.InstructionTerms.{access_tests, returns_home, effects, branch_test}
-use Rattle.decompile_spec.specs.Blocks.{Following, call_nodes, Setting, Does, leaves, toward, chain, tests_of, ending_of, nodes_at, landing_of, call_inputs}
+use Rattle.decompile_spec.specs.Blocks.{Of, Following, call_nodes, tail_call_nodes, Setting, Does, leaves, toward, chain, tests_of, ending_of, nodes_at, landing_of, call_inputs, tail_inputs}
 use Rattle.decompile_laws.specs.Layout.{block}
 use Rattle.decompile.specs.Settings.{asks}
 use Rattle.decompile.proofs.Asked.{chain-asks}
@@ -29,6 +29,12 @@ module _ (f : Setting) (address : ℕ) (i : Instr) where
   pub jump_block : (target : ℕ) → leaves f target ≡ false → block f (record { address = address; instruction = i; flow = Jumps target }) ≡ Basic [] (toward f target) ∷ []
   unfolding nodes_at chain tests_of ending_of landing_of
   jump_block target stays = rw stays refl
+
+  pub tail_block : (target : ℕ) → leaves f target ≡ true → block f (record { address = address; instruction = i; flow = Jumps target })
+      ≡ Cond returns_home (next.At (f.at (Of address 1))) next.Err
+      ∷ (Call (f.graph_number target) tail_inputs [] (f.at (Following address tail_call_nodes)) ∷ Basic [] next.Ret ∷ [])
+  unfolding nodes_at chain tests_of ending_of landing_of
+  tail_block target leaves_it = rw leaves_it refl
 
   pub call_block : (target : ℕ) → target % 4 ≡ 0 → block f (record { address = address; instruction = i; flow = Calls target })
       ≡ Call (f.graph_number target) (call_inputs (past address 4)) [] (f.at (Following address call_nodes)) ∷ Basic [] (toward f (address + 4)) ∷ []

@@ -15,7 +15,8 @@ use Rattle.decompile_spec.specs.InstructionTerms as forms
 use Rattle.decompile_spec.specs.Blocks.{Following, call_nodes, Setting, Does, leaves, toward, chain, tests_of, ending_of, nodes_at, landing_of, call_inputs}
 use Rattle.decompile_laws.specs.Layout.{Item, landing_node, block}
 use Rattle.decompile.specs.Counts.{load_tests, alignments, access_tests, further_by, further_nodes}
-use Rattle.decompile.specs.Settings.{Stays}
+use Rattle.decompile.specs.declared.numbers.Counting.{Counting}
+use Rattle.decompile.specs.Answer.{counting}
 
 chain_long : (f : Setting) (address index : ℕ) (tests : List Term) (node : Node) → length (chain f address index tests (Does node)) ≡ length tests + 1
 unfolding chain
@@ -58,23 +59,28 @@ call_long : (f : Setting) (address target : ℕ) (b : Bool)
 call_long f address target true = refl
 call_long f address target false = refl
 
-jump_long : (f : Setting) (address target : ℕ) (i : Instr) → leaves f target ≡ false
-    → length (nodes_at f address i (Jumps target) ++ landing_node (landing_of f address (Jumps target))) ≡ 1
-unfolding nodes_at chain tests_of ending_of landing_of
-jump_long f address target i e = rw e refl
+-- what the nodes of the function of this setting are counted by
+abbrev pub counting_of : Setting → Counting
+counting_of f = counting f.entry f.size (length f.runs)
 
-pub block_long : (f : Setting) (item : Item) → Stays f item.flow → length (block f item) ≡ further_nodes (length f.runs) item + 1
+jump_long : (f : Setting) (address target : ℕ) (i : Instr) (b : Bool) → leaves f target ≡ b
+    → length (nodes_at f address i (Jumps target) ++ landing_node (landing_of f address (Jumps target))) ≡ cond b 2 0 + 1
 unfolding nodes_at chain tests_of ending_of landing_of
-block_long f item stays = of item.flow stays
+jump_long f address target i true e = rw e refl
+jump_long f address target i false e = rw e refl
+
+pub block_long : (f : Setting) (item : Item) → length (block f item) ≡ further_nodes (counting_of f) item + 1
+unfolding nodes_at chain tests_of ending_of landing_of
+block_long f item = of item.flow
   where
-    of : (flow : Flow) → Stays f flow → length (nodes_at f item.address item.instruction flow ++ landing_node (landing_of f item.address flow)) ≡ further_by (length f.runs) item.instruction flow + 1
-    of Falls s =
+    of : (flow : Flow) → length (nodes_at f item.address item.instruction flow ++ landing_node (landing_of f item.address flow)) ≡ further_by (counting_of f) item.instruction flow + 1
+    of Falls =
         let node : Node = Basic (forms.effects item.address item.instruction) (toward f (item.address + 4)) in
         length-append (chain f item.address 0 (forms.access_tests f.runs item.instruction) (Does node)) []
         ∙ omega (arith, chain_long f item.address 0 (forms.access_tests f.runs item.instruction) node, accesses f item.instruction)
-    of (Branches target) s = refl
-    of (Jumps target) s = jump_long f item.address target item.instruction s
-    of (Calls target) s = call_long f item.address target (target % 4 == 0)
-    of (Links target) s = refl
-    of Returns s = refl
-    of Stops s = refl
+    of (Branches target) = refl
+    of (Jumps target) = jump_long f item.address target item.instruction (leaves f target) refl
+    of (Calls target) = call_long f item.address target (target % 4 == 0)
+    of (Links target) = refl
+    of Returns = refl
+    of Stops = refl

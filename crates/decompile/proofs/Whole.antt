@@ -1,71 +1,34 @@
 -- The answer of the program is the graph of the function.
-use Rattle.std.proofs.Common.{◌≡◌, ◌∙◌, ℕ, zero, suc, ◌+◌, ◌-◌, ◌%◌, ◌^◌, ◌<◌, ◌≤◌, ◌==◌, ◌&&◌, Bool, true, false, refl, sym, ap, subst, arith, List, [], ◌∷◌, All, length, map, get_or, Some, None}
+use Rattle.std.proofs.Common.{◌≡◌, ◌∙◌, ℕ, zero, suc, ◌+◌, ◌-◌, ◌^◌, ◌<◌, ◌≤◌, refl, sym, ap, subst, arith, List, [], ◌∷◌, All, length, map, Some}
 use Rattle.std.specs.Prelude.{Contains, replicate}
 use Rattle.std.specs.List.Sorted.{IsStrictlyIncreasing}
-use Rattle.std.proofs.lemmas.Bool.{le-leb, lt-ltb}
-use Rattle.std.proofs.lemmas.List.{length-map, length-replicate, get_or-map}
+use Rattle.std.proofs.lemmas.List.{length-map, length-replicate}
 use Rattle.std.proofs.lemmas.Option.{same_Some}
 use Rattle.std.proofs.lemmas.List.Elements.{All-head, All-tail}
 use Rattle.elf_read_spec.specs.Image.{Image, size_at}
 use Rattle.memory_spec.specs.Runs.{Run}
 use Rattle.elf_read.specs.declared.parts.Extent.{Extent}
-use Rattle.code_reach_spec.specs.Code.{InRange, Flow, Falls, Branches, Jumps, Calls, Links, Returns, Stops, flow_of, instr_at, flow_at, IsReachable}
-use Rattle.code_reach_spec.specs.Faults.{HasNoFault, goes_to}
+use Rattle.code_reach_spec.specs.Faults.{HasNoFault}
 use Rattle.graph_core_spec.specs.Graph.{Graph}
-use Rattle.decompile_spec.specs.Blocks.{Setting, leaves}
+use Rattle.decompile_spec.specs.Blocks.{Setting}
 use Rattle.decompile_spec.specs.CodeGraph.{IsCodeGraph, IsCall}
-use Rattle.decompile_laws.proofs.Reached.{flow_alone, stays_inside, code_there}
+use Rattle.decompile_laws.proofs.Reached.{code_there}
 use Rattle.decompile_laws.specs.Layout.{Item, laid, AreItems, AreNumbered, LaidAreCodeGraphs}
 use Rattle.decompile_laws.specs.Valid.{CodeGraphsAreValid}
 use Rattle.decompile.specs.declared.items.Item.{Item as CodeItem}
 use Rattle.decompile.specs.Items.{item_of, AreInstructions}
-use Rattle.decompile.specs.Answer.{first_in, setting, IsFunctionGraph}
+use Rattle.decompile.specs.Answer.{first_in, setting, counting, IsFunctionGraph}
 use Rattle.decompile.specs.Counts.{numbered, counted}
-use Rattle.decompile.specs.Settings.{run_of, blanked, HaveExtents, Stays}
+use Rattle.decompile.specs.Settings.{run_of, blanked, HaveExtents}
 use Rattle.decompile.proofs.Blanks.{same_laid}
 use Rattle.decompile.proofs.Counted.{laid_counted}
 use Rattle.decompile.proofs.Rising.{one_list}
 use Rattle.decompile.proofs.Numbered.{key, same_keys, keys-numbered, are_numbered, are_first_nodes}
 
--- ---- nothing jumps out of the range
-
-off : (b : Bool) → (b && false) ≡ false
-off true = refl
-off false = refl
-
-stays_there : (f : Setting) (target : ℕ) → InRange f.entry f.size target → leaves f target ≡ false
-stays_there f target inside = rw (le-leb f.entry target inside.from, lt-ltb target (f.entry + f.size) inside.below) (off (target % 4 == 0))
-
-pub stays : (image : Image) (f : Setting) (item : Item) → HasNoFault image f.entry f.size → IsReachable image f.entry f.size item.address
-    → instr_at image item.address ≡ Some item.instruction → flow_at image f.entry item.address ≡ Some item.flow → Stays f item.flow
-stays image f item sound there instruction flow = of item.flow refl
-  where
-    alone : item.flow ≡ flow_of None item.address item.instruction
-    alone = (flow_alone image f.entry f.size item.address sound there item.instruction item.flow instruction flow).0
-
-    of : (fl : Flow) → item.flow ≡ fl → Stays f fl
-    of Falls e = tt
-    of (Branches target) e = tt
-    of (Jumps target) e =
-        stays_there f target
-        (stays_inside image f.entry f.size item.address sound there item.instruction target instruction
-        (subst (λ (fl : Flow). Contains (goes_to item.address fl) target) (sym e ∙ alone) (0, omega arith, refl)))
-    of (Calls target) e = tt
-    of (Links target) e = tt
-    of Returns e = tt
-    of Stops e = tt
-
 -- ---- the instructions that were read
 
 pub rising_items : (items : List CodeItem) → IsStrictlyIncreasing (map (λ (item : Item). item.address) (map item_of items)) → IsStrictlyIncreasing (map (λ (item : CodeItem). item.address) items)
 rising_items items up = subst (λ (xs : List ℕ). IsStrictlyIncreasing xs) (same_keys items) up
-
-pub all_stay : (image : Image) (f : Setting) (items : List CodeItem) → HasNoFault image f.entry f.size → AreItems image f.entry f.size (map item_of items)
-    → All (λ (item : CodeItem). Stays f (item_of item).flow) items
-all_stay image f items sound are k d h =
-    let among : Contains (map item_of items) (item_of (get_or items k d)) =
-    (k, omega (arith, length-map items item_of), get_or-map item_of items k d (item_of (get_or items k d)) h) in
-    stays image f (item_of (get_or items k d)) sound (are.reached (item_of (get_or items k d)) among) (are.instructions (item_of (get_or items k d)) among) (are.flows (item_of (get_or items k d)) among)
 
 pub sized : (image : Image) (entry size : ℕ) (items : List CodeItem) → AreInstructions image entry items → size_at image entry ≡ Some size
     → HasNoFault image entry size × AreItems image entry size (map item_of items)
@@ -100,7 +63,7 @@ run_small (e ∷ extents) (r ∷ runs) same ordered below run (suc k, within, is
 module _ (image : Image) (entry size : ℕ) (entries : List ℕ) (items : List Item) (extents : List Extent) (firsts : List (ℕ × ℕ)) (graph : Graph)
     (sound : HasNoFault image entry size) (listed : (address callee : ℕ) → IsCall image entry size address callee → Contains entries callee)
     (are : AreItems image entry size items) (have : HaveExtents image extents)
-    (numbers : firsts ≡ numbered (length extents) 1 items) (made : graph ≡ laid (setting entry size (map run_of extents) entries firsts) items) where
+    (numbers : firsts ≡ numbered (counting entry size (length extents)) 1 items) (made : graph ≡ laid (setting entry size (map run_of extents) entries firsts) items) where
   abbrev own : Setting
   own = setting entry size have.runs entries firsts
 
@@ -108,12 +71,11 @@ module _ (image : Image) (entry size : ℕ) (entries : List ℕ) (items : List I
   same_count = sym (length-map extents run_of) ∙ ap length have.same ∙ length-map have.runs blanked
 
   up : IsStrictlyIncreasing (map key firsts)
-  up = subst (λ (xs : List ℕ). IsStrictlyIncreasing xs) (sym (ap (map key) numbers ∙ keys-numbered (length extents) 1 items)) are.rising
+  up = subst (λ (xs : List ℕ). IsStrictlyIncreasing xs) (sym (ap (map key) numbers ∙ keys-numbered (counting entry size (length extents)) 1 items)) are.rising
 
   numbers_there : AreNumbered own (first_in firsts) 1 items
   numbers_there =
-      are_numbered own firsts up [] 1 items (ap (λ (n : ℕ). numbered n 1 items) (sym same_count) ∙ sym numbers)
-      (λ item among. stays image own item sound (are.reached item among) (are.instructions item among) (are.flows item among))
+      are_numbered own firsts up [] 1 items (ap (λ (n : ℕ). numbered (counting entry size n) 1 items) (sym same_count) ∙ sym numbers)
 
   laid_so : graph ≡ laid own items
   laid_so = made ∙ ap (λ (rs : List Run). laid (setting entry size rs entries firsts) items) have.same ∙ same_laid own items
@@ -130,14 +92,13 @@ module _ (image : Image) (entry size : ℕ) (entries : List ℕ) (items : List I
     sound = sound;
     listed = listed;
     graph_is = is_graph layout;
-    firsts_are = are_first_nodes image own (length extents) items firsts are numbers (λ address index. refl);
+    firsts_are = are_first_nodes image own (counting entry size (length extents)) items firsts are numbers (λ address index. refl);
     valid = valid image own graph sound (run_small extents have.runs have.same have.ordered have.below) (is_graph layout);
   }
 
   -- it has as many nodes as were counted
-  pub made_counted : length graph.nodes ≡ counted (length extents) 1 items
+  pub made_counted : length graph.nodes ≡ counted (counting entry size (length extents)) 1 items
   made_counted =
       ap (λ (g : Graph). length g.nodes) made
       ∙ laid_counted (setting entry size (map run_of extents) entries firsts) items
-      (λ item among. stays image (setting entry size (map run_of extents) entries firsts) item sound (are.reached item among) (are.instructions item among) (are.flows item among))
-      ∙ ap (λ (n : ℕ). counted n 1 items) (length-map extents run_of)
+      ∙ ap (λ (n : ℕ). counted (counting entry size n) 1 items) (length-map extents run_of)

@@ -11,6 +11,7 @@ use Rattle.decompile_spec.specs.Blocks.{Setting}
 use Rattle.decompile_spec.specs.CodeGraph.{IsCodeGraph, AreFirstNodes, IsCall}
 use Rattle.decompile_laws.specs.Layout.{Item, AreItems, numbers_by}
 use Rattle.decompile.specs.Counts.{numbered}
+use Rattle.decompile.specs.declared.numbers.Counting.{Counting}
 
 -- the number of a function's graph is the index of its entry in a list; where it isn't there, the list's length
 abbrev pub number_in : List ℕ → (callee : ℕ) → ℕ
@@ -43,6 +44,10 @@ pub record IsFunctionGraph (image : Image) (entry : ℕ) (entries : List ℕ) (g
   pub firsts_are : AreFirstNodes image (setting entry size runs entries firsts) firsts
   pub valid : IsValid graph
 
+-- by what the nodes of a function are counted: its range, and how many runs of fixed bytes there are
+abbrev pub counting : (entry size runs : ℕ) → Counting
+counting entry size runs = record { entry = entry; size = size; runs = runs }
+
 -- the instructions that the function at an entry reaches, each with the number of its first node: the nodes of an
 -- instruction follow those of the one before it
 pub record AreFirsts (image : Image) (entry : ℕ) (firsts : List (ℕ × ℕ)) : Type 0 where
@@ -52,4 +57,4 @@ pub record AreFirsts (image : Image) (entry : ℕ) (firsts : List (ℕ × ℕ)) 
   pub runs_are : AreRuns image runs
   pub items : List Item
   pub items_are : AreItems image entry size items
-  pub numbers : firsts ≡ numbered (length runs) 1 items
+  pub numbers : firsts ≡ numbered (counting entry size (length runs)) 1 items

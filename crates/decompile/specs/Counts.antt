@@ -6,8 +6,10 @@ use Rattle.rv_instr.specs.declared.LoadKind.{LoadKind}
 use Rattle.rv_instr.specs.declared.LoadKind.TheVariants as load_kind
 use Rattle.rv_instr.specs.declared.StoreKind.{StoreKind}
 use Rattle.rv_instr.specs.declared.StoreKind.TheVariants as store_kind
-use Rattle.code_reach_spec.specs.Code.{Flow, Falls, Calls}
+use Rattle.code_reach_spec.specs.Code.{Flow, Falls, Branches, Jumps, Calls, Links, Returns, Stops}
+use Rattle.decompile_spec.specs.Blocks.{leaves_range}
 use Rattle.decompile_laws.specs.Layout.{Item}
+use Rattle.decompile.specs.declared.numbers.Counting.{Counting}
 use Rattle.decompile.specs.declared.error.GraphError.{GraphError}
 use Rattle.decompile.specs.declared.error.GraphError.TheVariants.{Large, NoMemory}
 
@@ -28,28 +30,32 @@ access_tests runs (Load kind rd base offset) = load_tests kind
 access_tests runs (Store kind base source offset) = alignments kind + runs
 access_tests runs other = 0
 
--- the tests before an access, and the landing node after a call
-abbrev pub further_by : (runs : ℕ) → Instr → Flow → ℕ
-further_by runs i Falls = access_tests runs i
-further_by runs i (Calls target) = if target % 4 == 0 then 1 else 0
-further_by runs i flow = 0
+-- the tests before an access, the landing node after a call, and with that the test before a tail call
+abbrev pub further_by : Counting → Instr → Flow → ℕ
+further_by by i Falls = access_tests by.runs i
+further_by by i (Branches target) = 0
+further_by by i (Jumps target) = if leaves_range by.entry by.size target then 2 else 0
+further_by by i (Calls target) = if target % 4 == 0 then 1 else 0
+further_by by i (Links target) = 0
+further_by by i Returns = 0
+further_by by i Stops = 0
 
--- how many nodes an instruction has beside one, where there are so many runs of fixed bytes
-abbrev pub further_nodes : (runs : ℕ) → Item → ℕ
-further_nodes runs item = further_by runs item.instruction item.flow
+-- how many nodes an instruction has beside one
+abbrev pub further_nodes : Counting → Item → ℕ
+further_nodes by item = further_by by item.instruction item.flow
 
 -- the addresses of instructions, each with the number of its first node, from n on
-abbrev pub numbered : (runs n : ℕ) → List Item → List (ℕ × ℕ)
-numbered runs n [] = []
-numbered runs n (item ∷ rest) = (item.address, n) ∷ numbered runs (n + (further_nodes runs item + 1)) rest
+abbrev pub numbered : Counting → (n : ℕ) → List Item → List (ℕ × ℕ)
+numbered by n [] = []
+numbered by n (item ∷ rest) = (item.address, n) ∷ numbered by (n + (further_nodes by item + 1)) rest
 
 -- how many nodes there are with those of these instructions, where there are n before
-abbrev pub counted : (runs n : ℕ) → List Item → ℕ
-counted runs n [] = n
-counted runs n (item ∷ rest) = counted runs (n + (further_nodes runs item + 1)) rest
+abbrev pub counted : Counting → (n : ℕ) → List Item → ℕ
+counted by n [] = n
+counted by n (item ∷ rest) = counted by (n + (further_nodes by item + 1)) rest
 
 -- the error says that there are more nodes than the maximum
-abbrev pub IsTooMany : (runs maximum : ℕ) → List Item → GraphError → Type 0
-IsTooMany runs maximum items (Large count) = (maximum < count) × (count ≤ counted runs 1 items)
-IsTooMany runs maximum items NoMemory = Unit {0}
-IsTooMany runs maximum items error = ⊥
+abbrev pub IsTooMany : Counting → (maximum : ℕ) → List Item → GraphError → Type 0
+IsTooMany by maximum items (Large count) = (maximum < count) × (count ≤ counted by 1 items)
+IsTooMany by maximum items NoMemory = Unit {0}
+IsTooMany by maximum items error = ⊥

@@ -1,14 +1,13 @@
 -- A function as the program has it, and the runs of fixed bytes by their addresses.
-use Rattle.std.specs.Prelude.{◌≡◌, ℕ, ◌+◌, ◌-◌, ◌^◌, ◌<◌, ◌≤◌, false, ⊤, List, [], ◌∷◌, length, map, replicate, All}
+use Rattle.std.specs.Prelude.{◌≡◌, ℕ, ◌+◌, ◌-◌, ◌^◌, ◌<◌, ◌≤◌, List, [], ◌∷◌, length, map, replicate, All}
 use Rattle.elf_read_spec.specs.Image.{Image}
 use Rattle.memory_spec.specs.Runs.{Run}
 use Rattle.elf_read_spec.specs.Runs.{AreRuns}
 use Rattle.elf_read.specs.declared.parts.Extent.{Extent}
-use Rattle.code_reach_spec.specs.Code.{Flow, Jumps}
 use Rattle.term_core_spec.specs.Term.{Term}
 use Rattle.graph_core_spec.specs.declared.Next.TheVariants as next
 use Rattle.graph_core_spec.specs.Graph.{Node, Cond}
-use Rattle.decompile_spec.specs.Blocks.{Setting, Of, leaves}
+use Rattle.decompile_spec.specs.Blocks.{Setting, Of}
 use Rattle.decompile.specs.Answer.{setting}
 use Rattle.decompile.specs.declared.function.Function.{Function}
 
@@ -33,11 +32,6 @@ pub record HaveExtents (image : Image) (extents : List Extent) : Type 0 where
 
 abbrev pub setting_of : Function → Setting
 setting_of f = setting f.entry f.size (map run_of f.runs.now) f.entries.now f.firsts.now.entries
-
--- the instruction doesn't jump out of the range
-abbrev pub Stays : Setting → Flow → Type 0
-Stays f (Jumps target) = leaves f target ≡ false
-Stays f flow = ⊤
 
 -- the nodes of tests, each of which continues at the node after it
 unfoldable pub asks : Setting → (address index : ℕ) → List Term → List Node

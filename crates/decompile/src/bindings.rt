@@ -7,6 +7,7 @@ ghost use Rattle.graph_core.specs.Graphs.{binding_of, bindings_of, boxed_term};
 ghost use Rattle.decompile_spec.specs.State.{memory as memory_is};
 ghost use Rattle.decompile_spec.specs.InstructionTerms as spec;
 ghost use Rattle.decompile_spec.specs.Blocks.{call_inputs as call_inputs_are};
+ghost use Rattle.decompile_spec.specs.Blocks.{tail_inputs as tail_inputs_are};
 ghost use Rattle.decompile_spec.specs.Blocks.{entry_binding as entry_binding_is};
 ghost use Rattle.decompile.specs.Built.{BuildsBindings};
 
@@ -277,5 +278,21 @@ pub(crate) fn call_inputs(alloc: Global, back: u32) -> Result<Vec<Binding>, Allo
 {
     let mut inputs = Vec::new(alloc);
     attempt!(add_inputs(alloc, &mut inputs, back));
+    Ok(inputs)
+}
+
+/// The registers but x0.
+const REGISTERS: [u8; 31] = [
+    1, 2, 3, 4, 5, 6, 7, 8, 9, 10, 11, 12, 13, 14, 15, 16, 17, 18, 19, 20, 21, 22, 23, 24, 25, 26,
+    27, 28, 29, 30, 31,
+];
+
+/// What a function starts with that another one ends by.
+#[tactic(auto, unfolding(decompile_spec::specs::Blocks::tail_inputs))]
+pub(crate) fn tail_inputs(alloc: Global) -> Result<Vec<Binding>, AllocError>
+    ensures { BuildsBindings result tail_inputs_are }
+{
+    let mut inputs = Vec::new(alloc);
+    attempt!(enter(alloc, &mut inputs, &REGISTERS));
     Ok(inputs)
 }

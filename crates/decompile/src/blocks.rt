@@ -1,27 +1,31 @@
 //! The nodes of an instruction.
 
-ghost use Rattle.std.specs.Prelude.{◌≡◌, ◌==◌, ◌∷◌, [], map, if◌then◌else◌, IfOk, OnOk, None};
-ghost use Rattle.code_reach_spec.specs.Code.{Flow, flow_of, Falls, Branches, Jumps, Calls, Links};
-ghost use Rattle.code_reach_spec.specs.Code.{Returns, Stops};
-ghost use Rattle.graph_core_spec.specs.Graph.{Basic, with_nodes};
+ghost use Rattle.std.specs.Prelude.{◌≡◌, ◌∷◌, [], ℕ, map, true, IfOk, OnOk};
+ghost use Rattle.code_reach_spec.specs.Code.{Falls, Branches, Jumps, Calls, Links, Returns, Stops};
+ghost use Rattle.graph_core_spec.specs.declared.Next.TheVariants as next;
+ghost use Rattle.graph_core_spec.specs.Graph.{Basic, Cond, with_nodes};
 ghost use Rattle.graph_core.specs.Graphs.{boxed_term, graph_of, node_of};
+ghost use Rattle.decompile_spec.specs.Blocks.{leaves};
 ghost use Rattle.decompile_spec.specs.InstructionTerms.{branch_test as branch_test_is};
+ghost use Rattle.decompile_spec.specs.InstructionTerms.{returns_home as returns_home_is};
 ghost use Rattle.decompile.specs.Built.{AddsBlock, AddsFlow};
-ghost use Rattle.decompile.specs.Items.{item_of, jal_flow, is_return_flow};
-ghost use Rattle.decompile.specs.Settings.{setting_of, Stays, asks};
+ghost use Rattle.decompile.specs.Items.{item_of};
+ghost use Rattle.decompile.specs.Settings.{setting_of, asks};
 
 use crate::accesses::access_tests;
-use crate::bindings::{call_inputs, effects};
+use crate::bindings::{call_inputs, effects, tail_inputs};
 use crate::function::{Function, graph_number};
 use crate::items::Item;
 use crate::numbers::plus;
 use attempt::attempt;
+use code_reach::Flow;
 use decompile_terms::{branch_test, returns_home};
 use graph_core::{Graph, Node};
 use graph_core_spec::Next;
-use rv_instr::{Instr, Reg};
+use rv_instr::Instr;
 use std::alloc::{AllocError, Global};
 use term_core::Term;
+use term_core_spec::Atom;
 
 /// Adds a node that binds nothing.
 fn add_plain(alloc: Global, graph: &mut Graph, next: Next) -> Result<(), AllocError>
@@ -33,15 +37,33 @@ fn add_plain(alloc: Global, graph: &mut Graph, next: Next) -> Result<(), AllocEr
     Ok(())
 }
 
-/// Whether an instruction is a return: `jalr x0, 0(x1)`.
-fn is_return(instruction: &Instr) -> bool
-    ensures { result ≡ is_return_flow (flow_of None 0 instruction.now) }
+/// Adds a test that the return address is as it was when the function began.
+fn add_home(alloc: Global, graph: &mut Graph, on_true: Next) -> Result<(), AllocError>
+    ensures { OnOk result (graph_of graph.new
+        ≡ with_nodes (graph_of graph.old) (Cond returns_home_is on_true next.Err ∷ [])) }
+{
+    let test = returns_home(alloc)?;
+    graph.add(Node::Cond {
+        test,
+        on_true,
+        on_false: Next::Err,
+    })?;
+    Ok(())
+}
+
+/// The test of a branch; that of any other instruction doesn't hold.
+#[tactic(auto, unfolding(decompile_spec::specs::InstructionTerms::branch_test))]
+fn test_of(alloc: Global, instruction: &Instr) -> Result<Box<Term>, AllocError>
+    ensures { IfOk result (λ test. boxed_term test ≡ branch_test_is instruction.now) }
 {
     match *instruction {
-        Instr::Jalr { rd, base, offset } => {
-            rd.number() == 0 && base.number() == 1 && offset == 0
-        }
-        _ => false,
+        Instr::Branch {
+            test,
+            left,
+            right,
+            ..
+        } => branch_test(alloc, test, left, right),
+        _ => Term::leaf(alloc, Atom::Truth(false)),
     }
 }
 
@@ -83,17 +105,17 @@ impl Function<'_> {
         Ok(())
     }
 
-    /// Adds a branch, whose test this is.
+    /// Adds a branch.
     fn add_branch(
         &self,
+        alloc: Global,
         graph: &mut Graph,
         item: &Item,
-        test: Box<Term>,
         target: u32,
     ) -> Result<(), AllocError>
-        requires { boxed_term test ≡ branch_test_is item.now.instruction }
         ensures { OnOk result (AddsFlow self.now graph.old graph.new item.now (Branches target)) }
     {
+        let test = test_of(alloc, &item.instruction)?;
         let on_true = self.toward(target);
         let on_false = self.onward(item.address);
         graph.add(Node::Cond {
@@ -104,7 +126,8 @@ impl Function<'_> {
         Ok(())
     }
 
-    /// Adds a call, and its landing node, which continues at the instruction after it.
+    /// Adds a call, and its landing node, which continues at the instruction after it; a call of no
+    /// multiple of 4 is an error.
     fn add_call(
         &self,
         alloc: Global,
@@ -131,86 +154,85 @@ impl Function<'_> {
         Ok(())
     }
 
-    /// Adds a JAL: a jump, a call, or one that is an error.
+    /// Adds a tail call: the test of a return, the call, whose callee returns in this function's
+    /// place, and its landing node, which returns.
+    fn add_tail_call(
+        &self,
+        alloc: Global,
+        graph: &mut Graph,
+        item: &Item,
+        target: u32,
+    ) -> Result<(), AllocError>
+        requires { leaves (setting_of self.now) target ≡ true }
+        ensures { OnOk result (AddsFlow self.now graph.old graph.new item.now (Jumps target)) }
+    {
+        let call = self.node(item.address, 1)?;
+        add_home(alloc, graph, Next::At(call))?;
+        let callee = graph_number(self.entries, target);
+        let inputs = tail_inputs(alloc)?;
+        let landing = self.node(item.address, 2)?;
+        graph.add(Node::Call {
+            callee,
+            inputs,
+            outputs: Vec::new(alloc),
+            landing,
+        })?;
+        add_plain(alloc, graph, Next::Ret)?;
+        Ok(())
+    }
+
+    /// Adds a jump; out of the range it is a tail call.
     fn add_jump(
         &self,
         alloc: Global,
         graph: &mut Graph,
         item: &Item,
-        rd: Reg,
         target: u32,
     ) -> Result<(), AllocError>
-        requires { Stays (setting_of self.now) (jal_flow rd target) }
-        ensures { OnOk result (AddsFlow self.now graph.old graph.new item.now
-            (jal_flow rd target)) }
+        ensures { OnOk result (AddsFlow self.now graph.old graph.new item.now (Jumps target)) }
     {
-        match rd.number() {
-            0 => add_plain(alloc, graph, self.toward(target)),
-            1 => self.add_call(alloc, graph, item, target),
-            _ => add_plain(alloc, graph, Next::Err),
-        }
-    }
-
-    /// Adds an instruction that returns, or one that is an error.
-    fn add_return(
-        &self,
-        alloc: Global,
-        graph: &mut Graph,
-        item: &Item,
-        returns: bool,
-    ) -> Result<(), AllocError>
-        ensures { OnOk result (AddsFlow self.now graph.old graph.new item.now
-            (if returns then Returns else Stops)) }
-    {
-        if returns {
-            let test = returns_home(alloc)?;
-            graph.add(Node::Cond {
-                test,
-                on_true: Next::Ret,
-                on_false: Next::Err,
-            })?;
+        if self.leaves(target) {
+            self.add_tail_call(alloc, graph, item, target)?;
             return Ok(());
         }
+        add_plain(alloc, graph, self.toward(target))?;
+        Ok(())
+    }
+
+    /// Adds a return.
+    fn add_return(&self, alloc: Global, graph: &mut Graph, item: &Item) -> Result<(), AllocError>
+        ensures { OnOk result (AddsFlow self.now graph.old graph.new item.now Returns) }
+    {
+        add_home(alloc, graph, Next::Ret)?;
+        Ok(())
+    }
+
+    /// Adds an instruction that is an error.
+    fn add_error(&self, alloc: Global, graph: &mut Graph, item: &Item) -> Result<(), AllocError>
+        ensures links { (target : ℕ) → OnOk result (AddsFlow self.now graph.old graph.new item.now
+            (Links target)) }
+        ensures stops { OnOk result (AddsFlow self.now graph.old graph.new item.now Stops) }
+    {
         add_plain(alloc, graph, Next::Err)?;
         Ok(())
     }
 
     /// Adds the nodes of an instruction, and the landing node after a call.
-    #[tactic(auto, unfolding(decompile_spec::specs::InstructionTerms::branch_test))]
     pub(crate) fn add_block(
         &self,
         alloc: Global,
         graph: &mut Graph,
         item: &Item,
     ) -> Result<(), AllocError>
-        requires { Stays (setting_of self.now) (item_of item.now).flow }
         ensures { OnOk result (AddsBlock self.now graph.old graph.new (item_of item.now)) }
     {
-        match item.instruction {
-            Instr::Jal { rd, offset } => {
-                self.add_jump(alloc, graph, item, rd, item.target(offset))
-            }
-            Instr::Jalr { .. } => {
-                self.add_return(alloc, graph, item, is_return(&item.instruction))
-            }
-            Instr::Branch {
-                test,
-                left,
-                right,
-                offset,
-            } => {
-                let test = branch_test(alloc, test, left, right)?;
-                self.add_branch(graph, item, test, item.target(offset))
-            }
-            Instr::Ecall | Instr::Ebreak => self.add_return(alloc, graph, item, false),
-            Instr::Lui { .. }
-            | Instr::Auipc { .. }
-            | Instr::Load { .. }
-            | Instr::Store { .. }
-            | Instr::Immediate { .. }
-            | Instr::Shift { .. }
-            | Instr::Arithmetic { .. }
-            | Instr::Fence { .. } => self.add_step(alloc, graph, item),
+        match item.flow {
+            Flow::Falls => self.add_step(alloc, graph, item),
+            Flow::Branches(target) => self.add_branch(alloc, graph, item, target),
+            Flow::Jumps(target) => self.add_jump(alloc, graph, item, target),
+            Flow::Calls(target) => self.add_call(alloc, graph, item, target),
+            Flow::Returns => self.add_return(alloc, graph, item),
+            Flow::Links(_) | Flow::Stops => self.add_error(alloc, graph, item),
         }
     }
 }

@@ -8,11 +8,11 @@ ghost use Rattle.decompile.specs.Callees as spec;
 use crate::error::GraphError;
 use crate::items::Item;
 use attempt::attempt;
-use rv_instr::Instr;
+use code_reach::callee;
 
 /// The address, if it is a multiple of 4.
 fn aligned(target: u32) -> Option<u32>
-    ensures { result ≡ (if target % 4 == 0 then Some target else None) }
+    ensures { result ≡ spec.aligned_of target }
 {
     if target.is_multiple_of(4) {
         Some(target)
@@ -21,13 +21,13 @@ fn aligned(target: u32) -> Option<u32>
     }
 }
 
-/// The entry of the function that an instruction calls, if it calls one.
-fn callee(item: &Item) -> Option<u32>
-    ensures { result ≡ spec.callee_of_item item.now }
+/// The entry of the function that an instruction calls, or ends by, if it does.
+fn called(entry: u32, size: u32, item: &Item) -> Option<u32>
+    ensures { result ≡ spec.callee_of_item entry size item.now }
 {
-    match item.instruction {
-        Instr::Jal { rd, offset } if rd.number() == 1 => aligned(item.target(offset)),
-        _ => None,
+    match callee(entry, size, item.flow) {
+        Some(target) => aligned(target),
+        None => None,
     }
 }
 
@@ -42,13 +42,13 @@ fn is_listed(entries: &[u32], callee: u32) -> bool
     }
 }
 
-/// Refuses an instruction whose callee isn't listed.
-fn check_callee(item: &Item, entries: &[u32]) -> Result<(), GraphError>
+/// Refuses an instruction of a function whose callee isn't listed.
+fn check_callee(entry: u32, size: u32, item: &Item, entries: &[u32]) -> Result<(), GraphError>
     requires { IsStrictlyIncreasing entries.now }
-    ensures listed { OnOk result (spec.IsListed entries.now item.now) }
-    ensures refused { IfErr result (spec.IsUnlisted entries.now item.now) }
+    ensures listed { OnOk result (spec.IsListed entry size entries.now item.now) }
+    ensures refused { IfErr result (spec.IsUnlisted entry size entries.now item.now) }
 {
-    match callee(item) {
+    match called(entry, size, item) {
         Some(callee) => {
             if !is_listed(entries, callee) {
                 return Err(GraphError::Unlisted {
@@ -62,14 +62,19 @@ fn check_callee(item: &Item, entries: &[u32]) -> Result<(), GraphError>
     }
 }
 
-/// Refuses the first of some instructions whose callee isn't listed.
-pub(crate) fn check_callees(items: &[Item], entries: &[u32]) -> Result<(), GraphError>
+/// Refuses the first of some instructions of a function whose callee isn't listed.
+pub(crate) fn check_callees(
+    entry: u32,
+    size: u32,
+    items: &[Item],
+    entries: &[u32],
+) -> Result<(), GraphError>
     requires { IsStrictlyIncreasing entries.now }
-    ensures listed { OnOk result (All (spec.IsListed entries.now) items.now) }
-    ensures refused { IfErr result (spec.IsFirstUnlisted entries.now items.now) }
+    ensures listed { OnOk result (All (spec.IsListed entry size entries.now) items.now) }
+    ensures refused { IfErr result (spec.IsFirstUnlisted entry size entries.now items.now) }
 {
     for item in items {
-        attempt!(check_callee(item, entries));
+        attempt!(check_callee(entry, size, item, entries));
     }
     Ok(())
 }

@@ -2,6 +2,7 @@
 
 ghost use Rattle.std.specs.Prelude.{◌≡◌, ◌+◌, ◌^◌, ◌≤◌, All};
 ghost use Rattle.std.specs.List.Sorted.{IsStrictlyIncreasing};
+ghost use Rattle.decompile_spec.specs.Blocks as spec;
 ghost use Rattle.decompile.specs.Answer.{number_in};
 
 use crate::numbers::plus;
@@ -26,6 +27,20 @@ pub(crate) struct Function<'a> {
     ghost in_space: { entry + size ≤ 2 ^ 32 },
     ghost ordered: { All (λ run. run.first ≤ run.last) runs.now },
     ghost rising: { IsStrictlyIncreasing entries.now },
+}
+
+/// Whether an address lies in the range of a function.
+fn is_in_range(entry: u32, size: u32, target: u32) -> bool
+    ensures { result ≡ spec.is_in_range entry size target }
+{
+    target >= entry && target - entry < size
+}
+
+/// Whether a jump to an address leaves the function of this entry and size: it is a tail call.
+pub(crate) fn leaves_range(entry: u32, size: u32, target: u32) -> bool
+    ensures { result ≡ spec.leaves_range entry size target }
+{
+    target.is_multiple_of(4) && !is_in_range(entry, size, target)
 }
 
 impl Function<'_> {
@@ -53,7 +68,14 @@ impl Function<'_> {
     fn is_inside(&self, target: u32) -> bool
         ensures { result ≡ spec.is_inside (setting_of self.now) target }
     {
-        target >= self.entry && target - self.entry < self.size
+        is_in_range(self.entry, self.size, target)
+    }
+
+    /// Whether a jump to an address leaves the function.
+    pub(crate) fn leaves(&self, target: u32) -> bool
+        ensures { result ≡ spec.leaves (setting_of self.now) target }
+    {
+        leaves_range(self.entry, self.size, target)
     }
 
     /// On to the instruction at an address; an error at no multiple of 4, and outside the range.

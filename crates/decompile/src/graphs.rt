@@ -1,6 +1,7 @@
 //! The graph of a function.
 
 ghost use Rattle.std.specs.Prelude.{◌≡◌, ◌≤◌, ◌-◌, ◌^◌, ℕ, length, map, IfOk, IfErr, IsSome, All};
+ghost use Rattle.std.specs.Prelude.{Some};
 ghost use Rattle.std.specs.List.Sorted.{IsStrictlyIncreasing};
 ghost use Rattle.elf_read_spec.specs.Image.{size_at};
 ghost use Rattle.graph_core.specs.Graphs.{graph_of};
@@ -13,7 +14,7 @@ use crate::callees::check_callees;
 use crate::error::GraphError;
 use crate::function::Function;
 use crate::items::{Item, instructions};
-use crate::numbers::{count_nodes, first_nodes};
+use crate::numbers::{Counting, count_nodes, first_nodes};
 use crate::runs::runs;
 use attempt::attempt;
 use decompile_laws::layout::laid_are_code_graphs;
@@ -35,18 +36,17 @@ pub struct CodeGraph {
 }
 
 impl Function<'_> {
-    ghost use Rattle.std.specs.Prelude.{◌≡◌, map, All, IfOk, OnOk};
+    ghost use Rattle.std.specs.Prelude.{◌≡◌, map, IfOk, OnOk};
     ghost use Rattle.graph_core_spec.specs.Graph.{empty};
     ghost use Rattle.decompile_laws.specs.Layout.{laid};
     ghost use Rattle.graph_core.specs.Graphs.{graph_of as seen};
     ghost use Rattle.decompile.specs.Items.{item_of};
-    ghost use Rattle.decompile.specs.Settings.{setting_of, Stays};
+    ghost use Rattle.decompile.specs.Settings.{setting_of};
 
     /// Adds to a graph without nodes those of some instructions: a landing node at the entry, and
     /// the nodes of each in order.
     fn add_blocks(&self, alloc: Global, graph: &mut Graph, items: &[Item]) -> Result<(), AllocError>
-        requires none { seen graph.old ≡ empty }
-        requires stay { All (λ item. Stays (setting_of self.now) (item_of item).flow) items.now }
+        requires { seen graph.old ≡ empty }
         ensures { OnOk result (seen graph.new
             ≡ laid (setting_of self.now) (map item_of items.now)) }
     {
@@ -63,7 +63,6 @@ impl Function<'_> {
 
     /// The graph of some instructions.
     fn graph(&self, alloc: Global, items: &[Item]) -> Result<Graph, AllocError>
-        requires { All (λ item. Stays (setting_of self.now) (item_of item).flow) items.now }
         ensures { IfOk result (λ graph. seen graph
             ≡ laid (setting_of self.now) (map item_of items.now)) }
     {
@@ -79,17 +78,18 @@ fn listed_instructions(
     alloc: Global,
     image: &Image<'_>,
     entry: u32,
+    size: u32,
     entries: &[u32],
 ) -> Result<Vec<Item>, GraphError>
-    requires function { IsSome (size_at image.now entry) }
+    requires function { size_at image.now entry ≡ Some size }
     requires rising { IsStrictlyIncreasing entries.now }
     ensures found { IfOk result (λ items. AreInstructions image.now entry items.items
-        × All (IsListed entries.now) items.items) }
+        × All (IsListed entry size entries.now) items.items) }
     ensures fault { IfErr result (λ error. (maximum : ℕ)
         → IsGraphError image.now entry entries.now maximum error) }
 {
     let items = instructions(alloc, image, entry)?;
-    check_callees(items.as_slice(), entries)?;
+    check_callees(entry, size, items.as_slice(), entries)?;
     Ok(items)
 }
 
@@ -114,13 +114,19 @@ pub fn decompile_within(
     ensures error { IfErr result (IsGraphError image.now entry entries.now maximum) }
 {
     let size = image.size_at(entry).unwrap();
-    let items = listed_instructions(alloc, image, entry, entries)?;
+    let items = listed_instructions(alloc, image, entry, size, entries)?;
     let runs = runs(alloc, image)?;
     // laws, of which nothing runs
     laid_are_code_graphs();
     code_graphs_are_valid();
-    count_nodes(runs.len(), items.as_slice(), maximum)?;
-    let firsts = first_nodes(alloc, runs.len(), items.as_slice())?;
+    let extents = runs.len();
+    let by = Counting {
+        entry,
+        size,
+        runs: extents,
+    };
+    count_nodes(by, items.as_slice(), maximum)?;
+    let firsts = first_nodes(alloc, by, items.as_slice())?;
     let function = Function {
         entry,
         size,

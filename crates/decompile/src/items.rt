@@ -1,36 +1,26 @@
 //! The instructions that a function reaches.
 
 ghost use Rattle.std.specs.Prelude.{◌≡◌, IfOk, IfErr, IsSome};
-ghost use Rattle.rv_machine_spec.specs.Arithmetic.{word};
-ghost use Rattle.rv_machine_spec.specs.Machine.{past};
 ghost use Rattle.elf_read_spec.specs.Image.{size_at};
 ghost use Rattle.code_reach.specs.Found.{IsCodeError};
+ghost use Rattle.decompile.specs.Items.{AreInstructions};
 
-use code_reach::{CodeError, code};
+use code_reach::{CodeError, Flow, code, flow_at};
 use elf_read::Image;
 use rv_decode::decode;
 use rv_instr::Instr;
 use std::alloc::Global;
 
-/// An instruction and its address.
+/// An instruction, its address, and where control goes after it.
 #[derive(Clone, Copy, Drop)]
 pub(crate) struct Item {
     /// Where it is.
     pub address: u32,
     /// What it is.
     pub instruction: Instr,
+    /// Where control goes.
+    pub flow: Flow,
 }
-
-impl Item {
-    /// The address so many bytes from it; addresses wrap.
-    pub(crate) fn target(&self, offset: i32) -> u32
-        ensures { result ≡ past self.now.address (word offset) }
-    {
-        self.address.wrapping_add(offset.cast_unsigned())
-    }
-}
-
-ghost use Rattle.decompile.specs.Items.{AreInstructions};
 
 /// The instructions that the function at an entry reaches, by address, or its first fault.
 pub(crate) fn instructions(
@@ -46,9 +36,11 @@ pub(crate) fn instructions(
     let mut items = Vec::new(alloc);
     for (address, word) in &words {
         let instruction = decode(*word).unwrap();
+        let flow = flow_at(image, entry, *address).unwrap();
         items.push(Item {
             address: *address,
             instruction,
+            flow,
         })?;
     }
     Ok(items)

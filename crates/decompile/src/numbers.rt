@@ -7,8 +7,10 @@ ghost use Rattle.decompile.specs.Counts as spec;
 ghost use Rattle.decompile.specs.declared.error.GraphError.TheVariants.{Large};
 
 use crate::error::GraphError;
+use crate::function::leaves_range;
 use crate::items::Item;
 use attempt::attempt;
+use code_reach::Flow;
 use indexmap::IndexMap;
 use rv_instr::{Instr, LoadKind, StoreKind};
 use std::alloc::{AllocError, Global};
@@ -44,27 +46,52 @@ fn alignments(kind: StoreKind) -> usize
     }
 }
 
-/// How many nodes an instruction has beside one, where there are so many runs of fixed bytes: its
-/// tests, and the landing node after a call.
-fn further_nodes(runs: usize, item: &Item) -> Result<usize, AllocError>
-    ensures { IfOk result (λ count. count ≡ spec.further_nodes runs (item_of item.now)) }
+/// How many tests an instruction has before it, where there are so many runs of fixed bytes.
+fn access_tests(runs: usize, instruction: &Instr) -> Result<usize, AllocError>
+    ensures { IfOk result (λ count. count ≡ spec.access_tests runs instruction.now) }
 {
-    match item.instruction {
+    match *instruction {
         Instr::Load { kind, .. } => Ok(load_tests(kind)),
         Instr::Store { kind, .. } => plus(alignments(kind), runs),
-        Instr::Jal { rd, offset } if rd.number() == 1 => {
-            Ok(usize::from(item.target(offset).is_multiple_of(4)))
-        }
         _ => Ok(0),
     }
 }
 
-/// The number of the first node after those of an instruction, of which this is the first.
-fn after(runs: usize, item: &Item, first: usize) -> Result<usize, AllocError>
-    ensures { IfOk result (λ next. next
-        ≡ first + (spec.further_nodes runs (item_of item.now) + 1)) }
+/// What the number of an instruction's nodes depends on beside the instruction.
+#[derive(Clone, Copy, Drop)]
+pub(crate) struct Counting {
+    /// Where the function begins.
+    pub entry: u32,
+    /// How many bytes it has.
+    pub size: u32,
+    /// How many runs of fixed bytes the file has.
+    pub runs: usize,
+}
+
+/// How many nodes an instruction has beside one: its tests, the landing node after a call, and with
+/// that the test before a tail call.
+fn further_nodes(by: Counting, item: &Item) -> Result<usize, AllocError>
+    ensures { IfOk result (λ count. count ≡ spec.further_nodes by (item_of item.now)) }
 {
-    let further = attempt!(further_nodes(runs, item));
+    match item.flow {
+        Flow::Falls => access_tests(by.runs, &item.instruction),
+        Flow::Jumps(target) => {
+            if leaves_range(by.entry, by.size, target) {
+                return Ok(2);
+            }
+            Ok(0)
+        }
+        Flow::Calls(target) => Ok(usize::from(target.is_multiple_of(4))),
+        Flow::Branches(_) | Flow::Links(_) | Flow::Returns | Flow::Stops => Ok(0),
+    }
+}
+
+/// The number of the first node after those of an instruction, of which this is the first.
+fn after(by: Counting, item: &Item, first: usize) -> Result<usize, AllocError>
+    ensures { IfOk result (λ next. next
+        ≡ first + (spec.further_nodes by (item_of item.now) + 1)) }
+{
+    let further = attempt!(further_nodes(by, item));
     let own = attempt!(plus(further, 1));
     plus(first, own)
 }
@@ -80,53 +107,50 @@ fn bounded(count: usize, maximum: usize) -> Result<usize, GraphError>
     Ok(count)
 }
 
-/// How many nodes the graph of some instructions has, where there are so many runs of fixed bytes;
-/// the count stops above the maximum.
-pub(crate) fn count_nodes(runs: usize, items: &[Item], maximum: usize) -> Result<usize, GraphError>
-    ensures count { IfOk result (λ count. (count ≡ spec.counted runs 1 (map item_of items.now))
+/// How many nodes the graph of some instructions has; the count stops above the maximum.
+pub(crate) fn count_nodes(by: Counting, items: &[Item], maximum: usize) -> Result<usize, GraphError>
+    ensures count { IfOk result (λ count. (count ≡ spec.counted by 1 (map item_of items.now))
         × (count ≤ maximum)) }
-    ensures large { IfErr result (spec.IsTooMany runs maximum (map item_of items.now)) }
+    ensures large { IfErr result (spec.IsTooMany by maximum (map item_of items.now)) }
 {
     let mut count = bounded(1, maximum)?;
     for item in items {
-        let next = after(runs, item, count)?;
+        let next = after(by, item, count)?;
         count = bounded(next, maximum)?;
     }
     Ok(count)
 }
 
-/// Numbers the first node of each of some instructions, where there are so many runs of fixed
-/// bytes: the landing node at the entry has the number 0, and the nodes of the instructions follow
-/// in order.
+/// Numbers the first node of each of some instructions: the landing node at the entry has the
+/// number 0, and the nodes of the instructions follow in order.
 fn number_nodes(
     firsts: &mut IndexMap<u32, usize>,
-    runs: usize,
+    by: Counting,
     items: &[Item],
 ) -> Result<(), AllocError>
     requires none { firsts.old.entries ≡ [] }
     requires rising { IsStrictlyIncreasing (map (λ item. item.address) items.now) }
-    ensures { OnOk result (firsts.new.entries ≡ spec.numbered runs 1 (map item_of items.now)) }
+    ensures { OnOk result (firsts.new.entries ≡ spec.numbered by 1 (map item_of items.now)) }
 {
     let mut next: usize = 1;
     for item in items {
         firsts.insert(item.address, next)?;
-        next = after(runs, item, next)?;
+        next = after(by, item, next)?;
     }
     Ok(())
 }
 
-/// The number of the first node of each of some instructions, where there are so many runs of fixed
-/// bytes, by its address.
+/// The number of the first node of each of some instructions, by its address.
 pub(crate) fn first_nodes(
     alloc: Global,
-    runs: usize,
+    by: Counting,
     items: &[Item],
 ) -> Result<IndexMap<u32, usize>, AllocError>
     requires { IsStrictlyIncreasing (map (λ item. item.address) items.now) }
     ensures { IfOk result (λ firsts. firsts.entries
-        ≡ spec.numbered runs 1 (map item_of items.now)) }
+        ≡ spec.numbered by 1 (map item_of items.now)) }
 {
     let mut firsts = IndexMap::new(alloc);
-    attempt!(number_nodes(&mut firsts, runs, items));
+    attempt!(number_nodes(&mut firsts, by, items));
     Ok(firsts)
 }

@@ -11,7 +11,7 @@ use Rattle.graph_core_spec.specs.Graph.{Binding}
 use Rattle.graph_core_spec.specs.Run.{bound, entered, resumed, is_shared, unset}
 use Rattle.decompile_spec.specs.State.{register, entry_register, memory, Alike}
 use Rattle.decompile_spec.specs.InstructionTerms as instruction_terms
-use Rattle.decompile_spec.specs.Blocks.{entry_binding, other_registers, call_inputs}
+use Rattle.decompile_spec.specs.Blocks.{entry_binding, other_registers, call_inputs, tail_inputs}
 use Rattle.decompile_laws.specs.Together.{Began}
 
 -- ---- one register
@@ -134,6 +134,18 @@ call_alike s m back count alike = record {
 pub call_began : (s : Assignment) (back : ℕ) → Began (entered (call_inputs back) s) back
 unfolding bound call_inputs value
 call_began s back = refl
+
+-- what a function starts with that another one ends by
+pub tail_alike : (s : Assignment) (m : Machine) → Alike m s → Alike m (entered tail_inputs s)
+unfolding bound tail_inputs
+tail_alike s m alike = record {
+  registers = λ q some inside. entries_registers s (shared_of s) (1 ∷ other_registers) q ∙ alike.registers q some inside;
+  bytes = entries_memory s (shared_of s) (1 ∷ other_registers) ∙ alike.bytes;
+}
+
+pub tail_began : (s : Assignment) (back : ℕ) → s (register 1) ≡ Number W32 back → Began (entered tail_inputs s) back
+unfolding bound tail_inputs value
+tail_began s back is = is
 
 -- what the caller continues with
 pub resumed_alike : (s waited : Assignment) (m : Machine) → Alike m s → Alike m (resumed [] s waited)

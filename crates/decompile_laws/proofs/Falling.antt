@@ -1,5 +1,5 @@
 -- Instructions that continue at the next one: what the machine does, and what their nodes bind.
-use Rattle.std.proofs.Common.{◌≡◌, ℕ, ◌*◌, ◌%◌, ◌^◌, ◌<◌, ◌==◌, Bool, true, false, cond, refl, sym, ap, subst, arith, List, [], ◌∷◌, map, Some, None, ℤ, pos, negsuc}
+use Rattle.std.proofs.Common.{◌≡◌, ℕ, ◌*◌, ◌%◌, ◌^◌, ◌<◌, ◌==◌, Bool, true, false, cond, refl, sym, ap, subst, arith, List, [], ◌∷◌, map, Option, Some, None, ℤ, pos, negsuc}
 use Rattle.std.specs.Prelude.{option_map}
 use Rattle.rv_instr.specs.declared.Instr.{Instr}
 use Rattle.rv_instr.specs.declared.Instr.TheVariants.{Lui, Auipc, Jal, Jalr, Branch, Load, Store, Immediate, Shift, Arithmetic, Fence, Ecall, Ebreak}
@@ -15,7 +15,7 @@ use Rattle.rv_machine_spec.proofs.Kept.{read_below, byte_below}
 use Rattle.elf_read_spec.specs.Image.{Image}
 use Rattle.memory_spec.specs.Runs.{Run}
 use Rattle.elf_read_spec.specs.Runs.{AreRuns}
-use Rattle.code_reach_spec.specs.Code.{HoldsFixed, Falls, Jumps, Calls, Links, Returns, Stops, flow_of}
+use Rattle.code_reach_spec.specs.Code.{HoldsFixed, Falls, Jumps, Calls, Links, Returns, flow_of, flow_of_pair, pair_target}
 use Rattle.term_core_spec.specs.Term.{Term}
 use Rattle.term_core_spec.specs.Value.{Bytes, Assignment, value}
 use Rattle.graph_core_spec.specs.Graph.{Binding}
@@ -117,31 +117,37 @@ module _ (image : Image) (m : Machine) (s : Assignment) (back : ℕ) (sound : Is
   no_jump false true t u v e = absurd (cc)
   no_jump false false t u v e = absurd (cc)
 
-  no_return : (b : Bool) → cond b Returns Stops ≡ Falls → ⊥
-  no_return true e = absurd (cc)
-  no_return false e = absurd (cc)
+  no_pair : (b : Bool) (t : ℕ) → cond b (Jumps t) (Calls t) ≡ Falls → ⊥
+  no_pair true t e = absurd (cc)
+  no_pair false t e = absurd (cc)
 
-  pub falls : (runs : List Run) → AreRuns image runs → (i : Instr) → AreFields i → flow_of None m.pc i ≡ Falls → all_hold s (access_tests runs i) ≡ true → Fell image m s i back
+  no_return : (b : Bool) (o : Option ℕ) (rd : ℕ) → cond b Returns (flow_of_pair o rd) ≡ Falls → ⊥
+  no_return true o rd e = absurd (cc)
+  no_return false None rd e = absurd (cc)
+  no_return false (Some t) rd e = absurd (no_pair (rd == 0) t e)
+
+  pub falls : (runs : List Run) → AreRuns image runs → (previous : Option Instr) (i : Instr) → AreFields i → flow_of previous m.pc i ≡ Falls
+      → all_hold s (access_tests runs i) ≡ true → Fell image m s i back
   unfolding execute effects
-  falls runs are (Lui rd imm) fields flow h = put_fell (Lui rd imm) rd _ ((imm * 2 ^ 12) % 2 ^ 32) fields (constant_evaluates s _) refl refl
-  falls runs are (Auipc rd imm) fields flow h = put_fell (Auipc rd imm) rd _ (past m.pc (imm * 2 ^ 12)) fields (constant_evaluates s _) refl refl
-  falls runs are (Jal rd offset) fields flow h = absurd (no_jump (rd == 0) (rd == 1) _ _ _ flow)
-  falls runs are (Jalr rd base offset) fields flow h = absurd (no_return _ flow)
-  falls runs are (Branch test left right offset) fields flow h = absurd (cc)
-  falls runs are (Load kind rd base offset) fields flow h = loads kind rd base offset fields.0 fields.1 h
-  falls runs are (Store kind base source offset) fields flow h = stores runs are kind base source offset fields.0 fields.1 h
-  falls runs are (Immediate operation rd source imm) fields flow h =
+  falls runs are previous (Lui rd imm) fields flow h = put_fell (Lui rd imm) rd _ ((imm * 2 ^ 12) % 2 ^ 32) fields (constant_evaluates s _) refl refl
+  falls runs are previous (Auipc rd imm) fields flow h = put_fell (Auipc rd imm) rd _ (past m.pc (imm * 2 ^ 12)) fields (constant_evaluates s _) refl refl
+  falls runs are previous (Jal rd offset) fields flow h = absurd (no_jump (rd == 0) (rd == 1) _ _ _ flow)
+  falls runs are previous (Jalr rd base offset) fields flow h = absurd (no_return _ (pair_target previous m.pc rd base offset) rd flow)
+  falls runs are previous (Branch test left right offset) fields flow h = absurd (cc)
+  falls runs are previous (Load kind rd base offset) fields flow h = loads kind rd base offset fields.0 fields.1 h
+  falls runs are previous (Store kind base source offset) fields flow h = stores runs are kind base source offset fields.0 fields.1 h
+  falls runs are previous (Immediate operation rd source imm) fields flow h =
       put_fell (Immediate operation rd source imm) rd _ (arithmetic (of_immediate operation) (read_register m source) (word imm)) fields.0
       (computed_evaluates s (of_immediate operation) (operand source) (number (word imm)) (read_register m source) (word imm) (read source) (word_below imm)
       (operand_is source fields.1) (constant_evaluates s (word imm))) refl refl
-  falls runs are (Shift operation rd source amount) fields flow h =
+  falls runs are previous (Shift operation rd source amount) fields flow h =
       put_fell (Shift operation rd source amount) rd _ (arithmetic (of_shift operation) (read_register m source) amount) fields.0
       (computed_evaluates s (of_shift operation) (operand source) (number amount) (read_register m source) amount (read source) (omega (arith, fields.2))
       (operand_is source fields.1) (constant_evaluates s amount)) refl refl
-  falls runs are (Arithmetic operation rd left right) fields flow h =
+  falls runs are previous (Arithmetic operation rd left right) fields flow h =
       put_fell (Arithmetic operation rd left right) rd _ (arithmetic operation (read_register m left) (read_register m right)) fields.0
       (computed_evaluates s operation (operand left) (operand right) (read_register m left) (read_register m right) (read left) (read right)
       (operand_is left fields.1) (operand_is right fields.2)) refl refl
-  falls runs are (Fence rd source bits) fields flow h = nothing_fell (Fence rd source bits) refl refl
-  falls runs are Ecall fields flow h = absurd (cc)
-  falls runs are Ebreak fields flow h = absurd (cc)
+  falls runs are previous (Fence rd source bits) fields flow h = nothing_fell (Fence rd source bits) refl refl
+  falls runs are previous Ecall fields flow h = absurd (cc)
+  falls runs are previous Ebreak fields flow h = absurd (cc)

@@ -4,28 +4,34 @@ use Rattle.std.proofs.lemmas.List.{append-nil, append_assoc}
 use Rattle.rv_instr.specs.declared.Instr.{Instr}
 use Rattle.rv_machine_spec.specs.Machine.{Machine}
 use Rattle.elf_read_spec.specs.Image.{Image, size_at}
-use Rattle.code_reach_spec.specs.Code.{Flow, Returns, instr_at, flow_at, IsReachable, Reaches}
+use Rattle.code_reach_spec.specs.Code.{Flow, Returns, instr_at, instr_before, flow_at, IsReachable, Reaches}
 use Rattle.code_reach_spec.specs.Faults.{ReachesNoFault}
 use Rattle.term_core_spec.specs.Term.{Term}
 use Rattle.term_core_spec.specs.Value.{Assignment, value}
 use Rattle.graph_core_spec.specs.Graph.{Graphs}
-use Rattle.graph_core_spec.specs.Run.{Waiting, State, Running, Failed, step, is_truth, system_of}
+use Rattle.graph_core_spec.specs.Run.{Waiting, State, Running, Returned, Failed, leave, step, is_truth, system_of}
 use Rattle.graph_core_spec.specs.TransitionSystem.{TransitionSystem, after}
 use Rattle.decompile_spec.specs.State.{Alike}
 use Rattle.decompile_spec.specs.Blocks.{Of, tests_of, ending_of}
-use Rattle.decompile_laws.specs.Together.{Numbering, setting, AreCodeGraphs, is_node, IsAt, at_entrance, at_landing, in_instruction, Began, AreWaiting, Corresponds, corresponds, IsSound}
+use Rattle.decompile_laws.specs.Together.{Numbering, setting, AreCodeGraphs, is_node, IsAt, at_entrance, at_landing, in_instruction, IsAfterAuipc, Began, AreWaiting, Corresponds, corresponds, at_tail_landing, at_home, IsSound}
 use Rattle.decompile_laws.specs.Evaluation.{all_hold}
 use Rattle.decompile_laws.proofs.Stored.{more_holds}
-use Rattle.decompile_laws.proofs.Reached.{flow_alone, has_instruction, has_flow}
-use Rattle.decompile_laws.proofs.Steps.{Acts, Moves, fails, clean, next_test, last_moves}
-use Rattle.decompile_laws.proofs.Moving.{any_moves, goes_further, first_of_one, return_moves, from_entrance, entry_reached, from_landing}
+use Rattle.decompile_laws.proofs.Reached.{has_instruction, has_flow}
+use Rattle.decompile_laws.proofs.Paired.{IsPaired, at_entry}
+use Rattle.decompile_laws.proofs.Steps.{Acts, Moves, fails, waits, clean, tail_lands, next_test, last_moves}
+use Rattle.decompile_laws.proofs.Moving.{count_at, any_moves, goes_further, first_of_one, return_moves, from_entrance, entry_reached, from_landing}
 use Rattle.decompile_laws.proofs.Nodes.{begins}
+
+-- what a step of the run is to the machine: one of its own, or none, where it has come home already
+pub data Comes (image : Image) (entry : ℕ) (n : Numbering) (home : ℕ) (m : Machine) : State → Type 0 where
+  has_acted : (after : State) → Acts image entry n home m after → Comes image entry n home m after
+  has_come_home : (values : Assignment) → m.pc ≡ home → Alike m values → Comes image entry n home m (Returned values)
 
 -- the run continues by at least one step, until it has failed or the machine has done its step
 pub record Proceeds (image : Image) (entry : ℕ) (n : Numbering) (graphs : Graphs) (home : ℕ) (m : Machine) (s : State) : Type 0 where
   pub count : ℕ
   pub some : 1 ≤ count
-  pub comes : Acts image entry n home m (after (system_of graphs (n.graph_number entry)) count s)
+  pub comes : Comes image entry n home m (after (system_of graphs (n.graph_number entry)) count s)
 
 module _ (image : Image) (entry : ℕ) (n : Numbering) (graphs : Graphs) (home : ℕ) (no_fault : ReachesNoFault image entry) (whole : AreCodeGraphs image entry n graphs) where
   abbrev w : TransitionSystem State
@@ -34,7 +40,7 @@ module _ (image : Image) (entry : ℕ) (n : Numbering) (graphs : Graphs) (home :
   -- by one step
   one_step : (m : Machine) (s : State) → Acts image entry n home m (step graphs s) → Proceeds image entry n graphs home m s
   unfolding after
-  one_step m s moves = record { count = 1; some = omega arith; comes = moves }
+  one_step m s moves = record { count = 1; some = omega arith; comes = has_acted (step graphs s) moves }
 
   -- by one step more
   step_more : (m : Machine) (s t : State) → step graphs s ≡ t → Proceeds image entry n graphs home m t → Proceeds image entry n graphs home m s
@@ -42,7 +48,7 @@ module _ (image : Image) (entry : ℕ) (n : Numbering) (graphs : Graphs) (home :
   step_more m s t e leads = record {
     count = suc leads.count;
     some = omega arith;
-    comes = subst (λ (x : State). Acts image entry n home m (after w leads.count x)) (sym e) leads.comes;
+    comes = subst (λ (x : State). Comes image entry n home m (after w leads.count x)) (sym e) leads.comes;
   }
 
   module _ (function size : ℕ) (reached : Reaches image entry function) (sized : size_at image function ≡ Some size) (m : Machine) (ok : IsSound image m)
@@ -52,17 +58,17 @@ module _ (image : Image) (entry : ℕ) (n : Numbering) (graphs : Graphs) (home :
 
     -- through the tests that are left
     run_on : (i : Instr) (flow : Flow) (left passed : List Term) → IsReachable image function size m.pc → instr_at image m.pc ≡ Some i
-        → flow_at image function m.pc ≡ Some flow → tests_of (setting n function size) i flow ≡ passed ++ left → all_hold values passed ≡ true
+        → flow_at image function m.pc ≡ Some flow → IsAfterAuipc values (instr_before image function m.pc) m.pc i flow
+        → tests_of (setting n function size) i flow ≡ passed ++ left → all_hold values passed ≡ true
         → is_node left (ending_of (setting n function size) m.pc i flow) ≡ true → Proceeds image entry n graphs home m (here_at passed)
     unfolding tests_of
-    run_on i flow [] passed there is flow_is tests hold node =
-        let known = flow_alone image function size m.pc (clean image entry n graphs home no_fault whole function size reached sized) there i flow is flow_is in
-        one_step m (here_at passed) (last_moves image entry n graphs home no_fault whole function size reached sized m ok back values below alike began waiting i passed there is flow flow_is known.0 known.1
+    run_on i flow [] passed there is flow_is paired tests hold node =
+        one_step m (here_at passed) (last_moves image entry n graphs home no_fault whole function size reached sized m ok back values below alike began waiting i passed there is flow flow_is paired
         (tests ∙ append-nil passed) hold node)
-    run_on i flow (test ∷ left) passed there is flow_is tests hold node =
+    run_on i flow (test ∷ left) passed there is flow_is paired tests hold node =
         further (goes_further image entry n graphs home no_fault whole function size reached sized m ok back values below alike began waiting i flow passed test left tests)
         (λ more. next_test image entry n graphs home no_fault whole function size reached sized m ok back values below alike began waiting i flow passed test left there is flow_is tests more)
-        (λ more now. run_on i flow left (passed ++ test ∷ []) there is flow_is (tests ∙ sym (append_assoc passed (test ∷ []) left)) (more_holds values passed test hold now) more)
+        (λ more now. run_on i flow left (passed ++ test ∷ []) there is flow_is paired (tests ∙ sym (append_assoc passed (test ∷ []) left)) (more_holds values passed test hold now) more)
       where
         further : (is_node left (ending_of (setting n function size) m.pc i flow) ≡ true) ⊎ (flow ≡ Returns)
             → (is_node left (ending_of (setting n function size) m.pc i flow) ≡ true → (step graphs (here_at passed) ≡ Failed) ⊎ ((step graphs (here_at passed) ≡ here_at (passed ++ test ∷ [])) × (is_truth (value values test) ≡ true)))
@@ -75,38 +81,54 @@ module _ (image : Image) (entry : ℕ) (n : Numbering) (graphs : Graphs) (home :
             by (inl none) = one_step m (here_at passed) (subst (Acts image entry n home m) (sym none) fails)
             by (inr on) = step_more m (here_at passed) (here_at (passed ++ test ∷ [])) on.0 (rest more on.1)
         further (inr home_bound) step_is rest =
-            let alone = flow_alone image function size m.pc (clean image entry n graphs home no_fault whole function size reached sized) there i flow is flow_is in
-            one_step m (here_at passed) (return_moves image entry n graphs home no_fault whole function size reached sized m ok back values below alike began waiting i passed there is (flow_is ∙ ap Some home_bound) (sym alone.0 ∙ home_bound)
+            one_step m (here_at passed) (return_moves image entry n graphs home no_fault whole function size reached sized m ok back values below alike began waiting i passed there is (flow_is ∙ ap Some home_bound)
             (first_of_one image entry n graphs home no_fault whole function size reached sized m ok back values below alike began waiting passed test left
             (sym (ap (λ (fl : Flow). tests_of (setting n function size) i fl) home_bound) ∙ tests)))
 
     -- from the first node of an instruction
-    begin_on : (address : ℕ) → IsReachable image function size address → m.pc ≡ address
+    begin_on : (address : ℕ) → IsReachable image function size address → IsPaired image function values address → m.pc ≡ address
         → Proceeds image entry n graphs home m (Running (n.graph_number function) (n.node_number function (Of address 0)) values below)
-    begin_on address there pc_is = subst (λ a. Proceeds image entry n graphs home m (Running (n.graph_number function) (n.node_number function (Of a 0)) values below)) pc_is
-        (from_here (subst (IsReachable image function size) (sym pc_is) there))
+    begin_on address there paired pc_is = subst (λ a. Proceeds image entry n graphs home m (Running (n.graph_number function) (n.node_number function (Of a 0)) values below)) pc_is
+        (from_here (subst (IsReachable image function size) (sym pc_is) there) (subst (IsPaired image function values) (sym pc_is) paired))
       where
-        from_here : IsReachable image function size m.pc → Proceeds image entry n graphs home m (Running (n.graph_number function) (n.node_number function (Of m.pc 0)) values below)
-        from_here reach =
+        from_here : IsReachable image function size m.pc → IsPaired image function values m.pc → Proceeds image entry n graphs home m (Running (n.graph_number function) (n.node_number function (Of m.pc 0)) values below)
+        from_here reach paired_here =
             let found = has_instruction image function size m.pc (clean image entry n graphs home no_fault whole function size reached sized) reach in
             let flow = has_flow image function m.pc found.0 found.1 in
-            run_on found.0 flow.0 (tests_of (setting n function size) found.0 flow.0) [] reach found.1 flow.1 refl refl (begins (setting n function size) m.pc found.0 flow.0)
+            run_on found.0 flow.0 (tests_of (setting n function size) found.0 flow.0) [] reach found.1 flow.1 (paired_here found.0 flow.0 found.1 flow.1) refl refl (begins (setting n function size) m.pc found.0 flow.0)
 
-    pub leads_from : (node : ℕ) → IsAt image (setting n function size) values m.pc node → Proceeds image entry n graphs home m (Running (n.graph_number function) node values below)
-    leads_from _ (at_entrance pc_is) =
+    pub leads_from : (node begun : ℕ) → IsAt image (setting n function size) values m.pc node begun → Proceeds image entry n graphs home m (Running (n.graph_number function) node values below)
+    leads_from _ _ (at_entrance pc_is) =
         step_more m _ _ (from_entrance image entry n graphs home no_fault whole function size reached sized m ok back values below alike began waiting)
-        (begin_on function (entry_reached image entry n graphs home no_fault whole function size reached sized m ok back values below alike began waiting) pc_is)
-    leads_from _ (at_landing address target there flow_is even pc_is) =
+        (begin_on function (entry_reached image entry n graphs home no_fault whole function size reached sized m ok back values below alike began waiting) (at_entry image function values) pc_is)
+    leads_from _ _ (at_landing address target there flow_is even pc_is) =
         elim (from_landing image entry n graphs home no_fault whole function size reached sized m ok back values below alike began waiting address target there flow_is even pc_is) [
           | inl none ↦ one_step m _ (subst (Acts image entry n home m) (sym none) fails)
-          | inr on ↦ step_more m _ _ on.0 (begin_on (address + 4) on.1 on.2)
+          | inr on ↦ step_more m _ _ on.0 (begin_on (address + 4) on.1 on.3 on.2)
         ]
-    leads_from _ (in_instruction i flow passed left there is flow_is tests hold node) = run_on i flow left passed there is flow_is tests hold node
+    leads_from _ _ (in_instruction i flow passed left there is flow_is paired tests hold node) = run_on i flow left passed there is flow_is paired tests hold node
 
   -- from wherever the machine corresponds to the run
-  pub leads : (m : Machine) (s : State) → IsSound image m → Corresponds image entry n home m s → Proceeds image entry n graphs home m s
-  leads m _ ok (corresponds function size node back values below reached sized at alike began waiting) = leads_from function size reached sized m ok back values below alike began waiting node at
+  pub leads : (m : Machine) (begun : ℕ) (s : State) → IsSound image m → Corresponds image entry n home m begun s → Proceeds image entry n graphs home m s
+  unfolding step after
+  leads m _ _ ok (corresponds function size node begun back values below reached sized at alike began waiting) =
+      leads_from function size reached sized m ok back values below alike began waiting node begun at
+  leads m _ _ ok (at_tail_landing graph node values below lands alike rest) =
+      step_more m _ _ (tail_lands image entry n graphs home no_fault whole graph node values below lands) (leads m 0 (leave values below) ok rest)
+  leads m _ _ ok (at_home values there alike) = record { count = 1; some = omega arith; comes = has_come_home values there alike }
 
-  pub moves : (m : Machine) (s : State) → IsSound image m → Corresponds image entry n home m s → Moves image entry n home m (step graphs s)
-  moves m _ ok (corresponds function size node back values below reached sized at alike began waiting) =
-      any_moves image entry n graphs home no_fault whole function size reached sized m ok back values below alike began waiting node at
+  -- 1 where the run is at a node of an instruction, and else 0
+  abbrev pub count_of : (m : Machine) (begun : ℕ) (s : State) → IsSound image m → Corresponds image entry n home m begun s → ℕ
+  count_of m _ _ ok (corresponds function size node begun back values below reached sized at alike began waiting) =
+      count_at image entry n graphs home no_fault whole function size reached sized m ok back values below alike began waiting node begun at
+  count_of m _ _ ok (at_tail_landing graph node values below lands alike rest) = 0
+  count_of m _ _ ok (at_home values there alike) = 0
+
+  pub moves : (m : Machine) (begun : ℕ) (s : State) (ok : IsSound image m) (correspondence : Corresponds image entry n home m begun s)
+      → Moves image entry n home m (count_of m begun s ok correspondence) (step graphs s)
+  unfolding step
+  moves m _ _ ok (corresponds function size node begun back values below reached sized at alike began waiting) =
+      any_moves image entry n graphs home no_fault whole function size reached sized m ok back values below alike began waiting node begun at
+  moves m _ _ ok (at_tail_landing graph node values below lands alike rest) =
+      subst (Moves image entry n home m 0) (sym (tail_lands image entry n graphs home no_fault whole graph node values below lands)) (waits 0 _ rest)
+  moves m _ _ ok (at_home values there alike) = waits 0 _ (at_home values there alike)

@@ -3,6 +3,7 @@ pub mod Values
 pub mod InstructionTerms
 pub mod Access
 pub mod Reached
+pub mod Paired
 pub mod Fetched
 pub mod Bound
 pub mod Covered
@@ -15,6 +16,7 @@ pub mod Steps
 pub mod Moving
 pub mod Leading
 pub mod Running
+pub mod Counting
 pub mod Places
 pub mod Laid
 pub mod Sorted

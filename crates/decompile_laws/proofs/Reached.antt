@@ -1,14 +1,12 @@
--- The addresses that a function without faults reaches.
-use Rattle.std.proofs.Common.{◌≡◌, ◌∙◌, inl, inr, ℕ, ◌+◌, ◌-◌, ◌%◌, ◌^◌, ◌<◌, ◌≤◌, ◌==◌, Bool, true, false, cond, refl, sym, ap, subst, arith, eqb-true, eq-eqb, List, [], ◌∷◌, get_or, Option, Some, None, ℤ}
+-- The addresses that a function without faults reaches, and where its instructions go.
+use Rattle.std.proofs.Common.{◌≡◌, ◌∙◌, ◌⊎◌, inl, inr, ℕ, ◌+◌, ◌-◌, ◌%◌, ◌^◌, ◌<◌, ◌≤◌, ◌==◌, Bool, true, false, cond, refl, sym, ap, subst, arith, eqb-true, eq-eqb, List, [], ◌∷◌, get_or, Option, Some, None}
 use Rattle.std.specs.Prelude.{Contains, nat_le, option_and_then, IsSome, is_some}
 use Rattle.std.proofs.lemmas.Bool.{cases_lt, cases_eq}
 use Rattle.rv_instr.specs.declared.Instr.{Instr}
-use Rattle.rv_instr.specs.declared.Instr.TheVariants.{Lui, Auipc, Jal, Jalr, Branch, Load, Store, Immediate, Shift, Arithmetic, Fence, Ecall, Ebreak}
 use Rattle.elf_read_spec.specs.Image.{Image, size_at, fixed_byte}
 use Rattle.code_reach_spec.specs.declared.CodeKind.TheVariants.{NoFunction, Empty, Writable, Misplaced, Undecoded, Indirect, Leaves}
-use Rattle.code_reach_spec.specs.Code.{InRange, HasCode, IsFixedRange, empty, writable, misplaced, aligned, Flow, Falls, Branches, Jumps, Calls, Links, Returns, Stops, flow_of, flow_of_pair, pair_target, instr_at, flow_at, nexts_of, IsReachable, here, next}
-use Rattle.code_reach_spec.specs.Faults.{direct_flow, IsDirectlyReachable, is_indirect, goes_to, IsInstructionFault, no_function, undecoded, indirect, leaves, of_instruction, of_range, HasNoFault}
-use Rattle.code_reach_spec.proofs.Direct.{direct-reachable}
+use Rattle.code_reach_spec.specs.Code.{InRange, HasCode, IsFixedRange, empty, writable, misplaced, aligned, Flow, Falls, Branches, Jumps, Calls, Links, Returns, Stops, flow_of, instr_at, instr_before, flow_at, nexts_of, IsReachable, here, next}
+use Rattle.code_reach_spec.specs.Faults.{is_pair, goes_to, IsTarget, IsInstructionFault, no_function, undecoded, without_auipc, leaves, of_instruction, of_range, HasNoFault}
 
 -- ---- lists of one or two addresses
 
@@ -79,74 +77,51 @@ whole_word image entry size address reached =
 
 -- ---- flow
 
-same_choice : (b : Bool) (other : Flow) (rd base : ℕ) (offset : ℤ) → is_indirect (Jalr rd base offset) (cond b Returns Stops) ≡ false
-    → cond b Returns other ≡ cond b Returns Stops
-same_choice true other rd base offset h = refl
-same_choice false other rd base offset h = absurd (cc)
-
-same_flow : (before : Option Instr) (address : ℕ) (i : Instr) → is_indirect i (flow_of None address i) ≡ false → flow_of before address i ≡ flow_of None address i
-same_flow before address (Lui rd imm) h = refl
-same_flow before address (Auipc rd imm) h = refl
-same_flow before address (Jal rd offset) h = refl
-same_flow before address (Jalr rd base offset) h = same_choice _ (flow_of_pair (pair_target before address rd base offset) rd) rd base offset h
-same_flow before address (Branch test left right offset) h = refl
-same_flow before address (Load kind rd base offset) h = refl
-same_flow before address (Store kind base source offset) h = refl
-same_flow before address (Immediate operation rd source imm) h = refl
-same_flow before address (Shift operation rd source amount) h = refl
-same_flow before address (Arithmetic operation rd left right) h = refl
-same_flow before address (Fence rd source bits) h = refl
-same_flow before address Ecall h = refl
-same_flow before address Ebreak h = refl
-
 module _ (image : Image) (entry size address : ℕ) (sound : HasNoFault image entry size) (reached : IsReachable image entry size address) where
-  direct : IsDirectlyReachable image entry size address
-  direct = direct-reachable image entry size address sound reached
+  no_fault : (kind : _) → IsInstructionFault image entry size (IsTarget image entry size) address kind → ⊥
+  no_fault kind fault = sound kind address (of_instruction kind address reached fault)
 
-  no_fault : (kind : _) → IsInstructionFault image entry size address kind → ⊥
-  no_fault kind fault = sound kind address (of_instruction kind address direct fault)
-
-  -- the flow of an instruction that is reached is what it is alone, and it is no indirect jump
-  pub flow_alone : (i : Instr) (flow : Flow) → instr_at image address ≡ Some i → flow_at image entry address ≡ Some flow
-      → (flow ≡ flow_of None address i) × (is_indirect i (flow_of None address i) ≡ false)
-  unfolding flow_at
-  flow_alone i flow there is = at (is_indirect i (flow_of None address i)) refl
-    where
-      before : Option Instr
-      before = cond (nat_le (entry + 4) address) (instr_at image (address - 4)) None
-
-      found : Some (flow_of before address i) ≡ Some flow
-      found = sym (ap (λ (o : Option Instr). option_and_then (λ j. Some (flow_of before address j)) o) there) ∙ is
-
-      at : (b : Bool) → is_indirect i (flow_of None address i) ≡ b → (flow ≡ flow_of None address i) × (is_indirect i (flow_of None address i) ≡ false)
-      at true e = absurd (no_fault Indirect (indirect i there e))
-      at false e = (cc (found, same_flow before address i e), e)
-
-  pub direct_is : (i : Instr) → instr_at image address ≡ Some i → direct_flow image address ≡ Some (flow_of None address i)
-  unfolding direct_flow
-  direct_is i there = ap (λ (o : Option Instr). option_and_then (λ j. Some (flow_of None address j)) o) there
-
-  in_range_or_not : (t : ℕ) → ((InRange entry size t → ⊥) → ⊥) → InRange entry size t
-  in_range_or_not t h = elim (cases_lt t entry) [
-    | inl low ↦ absurd (h (λ inside. omega (arith, inside.from)))
+  in_range_or_not : (t : ℕ) → InRange entry size t ⊎ (InRange entry size t → ⊥)
+  in_range_or_not t = elim (cases_lt t entry) [
+    | inl low ↦ inr (λ inside. omega (arith, inside.from))
     | inr from ↦ elim (cases_lt t (entry + size)) [
-      | inl below ↦ record { from = from; below = below }
-      | inr past ↦ absurd (h (λ inside. omega (arith, inside.below)))
+      | inl below ↦ inl (record { from = from; below = below })
+      | inr past ↦ inr (λ inside. omega (arith, inside.below))
     ]
   ]
 
-  -- where it goes by falling through, a branch or a jump lies in the range
-  pub stays_inside : (i : Instr) (t : ℕ) → instr_at image address ≡ Some i → Contains (goes_to address (flow_of None address i)) t → InRange entry size t
-  stays_inside i t there among =
-      in_range_or_not t (λ outside. no_fault Leaves (leaves (flow_of None address i) t (direct_is i there) among outside))
+  -- where it goes by falling through or a branch lies in the range
+  pub stays_inside : (flow : Flow) (t : ℕ) → flow_at image entry address ≡ Some flow → Contains (goes_to address flow) t → (flow ≡ Jumps t → ⊥) → InRange entry size t
+  stays_inside flow t is among no_jump = elim (in_range_or_not t) [
+    | inl inside ↦ inside
+    | inr outside ↦ absurd (no_fault Leaves (leaves flow t is among outside (λ on. no_jump on.jumps)))
+  ]
+
+  -- where it goes by a jump lies in the range, or is the entry of a function
+  pub jumps_inside : (target : ℕ) → flow_at image entry address ≡ Some (Jumps target)
+      → InRange entry size target ⊎ ((InRange entry size target → ⊥) × IsSome (size_at image target))
+  jumps_inside target is = elim (in_range_or_not target) [
+    | inl inside ↦ inl inside
+    | inr outside ↦ inr (outside, by_size outside (size_at image target) refl)
+  ]
+    where
+      by_size : (InRange entry size target → ⊥) → (o : Option ℕ) → size_at image target ≡ o → IsSome (size_at image target)
+      by_size outside None e = absurd (no_fault Leaves (leaves (Jumps target) target is (first_in target []) outside
+          (λ on. let some : is_some (size_at image target) ≡ true = on.to_entry in let off : is_some (size_at image target) ≡ false = ap is_some e in cc)))
+      by_size outside (Some s) e = rw e refl
 
   -- a call is of a function
-  pub calls_function : (i : Instr) (target : ℕ) → instr_at image address ≡ Some i → flow_of None address i ≡ Calls target → IsSome (size_at image target)
-  calls_function i target there is = at (size_at image target) refl
+  pub calls_function : (target : ℕ) → flow_at image entry address ≡ Some (Calls target) → IsSome (size_at image target)
+  calls_function target is = at (size_at image target) refl
     where
       at : (o : Option ℕ) → size_at image target ≡ o → IsSome (size_at image target)
-      at None e = absurd (no_fault NoFunction (no_function target (direct_is i there ∙ ap Some is) e))
-      at (Some size) e = rw e refl
+      at None e = absurd (no_fault NoFunction (no_function target is e))
+      at (Some s) e = rw e refl
+
+  -- the JALR of a pair is no target
+  pub no_target : (i : Instr) (flow : Flow) → instr_at image address ≡ Some i → flow_at image entry address ≡ Some flow → is_pair i flow ≡ true
+      → IsTarget image entry size address → ⊥
+  no_target i flow there is pair target = no_fault Indirect (without_auipc i flow there is pair target)
 
   pub has_instruction : (i : Instr) × (instr_at image address ≡ Some i)
   has_instruction = at (instr_at image address) refl
@@ -154,6 +129,15 @@ module _ (image : Image) (entry size address : ℕ) (sound : HasNoFault image en
       at : (o : Option Instr) → instr_at image address ≡ o → (i : Instr) × (instr_at image address ≡ Some i)
       at None e = absurd (no_fault Undecoded (undecoded e))
       at (Some i) e = (i, e)
+
+-- the flow of an instruction, given the one before it
+pub flow_there : (image : Image) (entry address : ℕ) (i : Instr) (flow : Flow) → instr_at image address ≡ Some i → flow_at image entry address ≡ Some flow
+    → flow_of (instr_before image entry address) address i ≡ flow
+unfolding flow_at
+flow_there image entry address i flow there is =
+    let found : Some (flow_of (instr_before image entry address) address i) ≡ Some flow =
+    sym (ap (λ (o : Option Instr). option_and_then (λ j. Some (flow_of (instr_before image entry address) address j)) o) there) ∙ is in
+    cc
 
 pub has_flow : (image : Image) (entry address : ℕ) (i : Instr) → instr_at image address ≡ Some i → (flow : Flow) × (flow_at image entry address ≡ Some flow)
 unfolding flow_at

@@ -1,10 +1,10 @@
 -- One step of a run of the graphs of code, and the machine that corresponds to it.
-use Rattle.std.proofs.Common.{◌≡◌, ◌∙◌, ◌⊎◌, inl, inr, ℕ, ◌+◌, ◌%◌, ◌^◌, ◌<◌, ◌≤◌, ◌==◌, ◌&&◌, Bool, true, false, cond, refl, sym, ap, subst, arith, eq-eqb, eqb-true, List, [], ◌∷◌, ◌++◌, length, Option, Some, None, pos}
-use Rattle.std.specs.Prelude.{slice_get, IfSome, IsSome, Contains}
-use Rattle.std.proofs.lemmas.Bool.{le-leb, lt-ltb}
+use Rattle.std.proofs.Common.{◌≡◌, ◌≢◌, ◌∙◌, ◌⊎◌, inl, inr, ℕ, ◌+◌, ◌-◌, ◌*◌, ◌%◌, ◌^◌, ◌<◌, ◌≤◌, ◌==◌, ◌&&◌, not, Bool, true, false, cond, refl, sym, ap, subst, arith, eq-eqb, eqb-true, List, [], ◌∷◌, ◌++◌, length, Option, Some, None, ℤ, pos}
+use Rattle.std.specs.Prelude.{slice_get, IfSome, IsSome, Contains, nat_le, nat_lt}
+use Rattle.std.proofs.lemmas.Bool.{le-leb, lt-ltb, leb-true, ltb-true, and_parts}
 use Rattle.std.proofs.lemmas.List.{length-append}
 use Rattle.rv_instr.specs.declared.Instr.{Instr}
-use Rattle.rv_instr.specs.declared.Instr.TheVariants.{Jalr}
+use Rattle.rv_instr.specs.declared.Instr.TheVariants.{Auipc, Jalr}
 use Rattle.rv_machine_spec.specs.Arithmetic.{holds}
 use Rattle.rv_machine_spec.specs.Machine.{Machine, IsMachine, read_register, write_register, past}
 use Rattle.rv_machine_spec.specs.Step as machine
@@ -13,30 +13,33 @@ use Rattle.rv_machine_spec.proofs.Registers.{memory-write}
 use Rattle.rv_machine_spec.proofs.Kept.{execute_keeps, read_below}
 use Rattle.elf_read_spec.specs.Image.{Image, size_at}
 use Rattle.elf_read_spec.specs.Runs.{AreRuns}
-use Rattle.code_reach_spec.specs.Code.{HoldsFixed, InRange, Flow, Falls, Branches, Jumps, Calls, Links, Returns, Stops, flow_of, instr_at, flow_at, nexts_of, aligned, IsReachable, next, call, Reaches, further}
-use Rattle.code_reach_spec.specs.Faults.{goes_to, is_indirect, HasNoFault, ReachesNoFault}
-use Rattle.code_reach_spec.proofs.Direct.{each_without, direct-reaches}
-use Rattle.term_core_spec.specs.Term.{Term}
-use Rattle.term_core_spec.specs.Value.{Assignment, value}
+use Rattle.code_reach_spec.specs.Code.{HoldsFixed, InRange, Flow, Falls, Branches, Jumps, Calls, Links, Returns, Stops, flow_of, instr_at, instr_before, flow_at, nexts_of, aligned, IsReachable, next, call, tail, Reaches, further}
+use Rattle.code_reach_spec.specs.Faults.{targets_of, target_of_reached, is_pair, HasNoFault, ReachesNoFault}
+use Rattle.code_reach_spec.proofs.First.{each_without}
+use Rattle.term_core_spec.specs.declared.Width.TheVariants.{W32}
+use Rattle.term_core_spec.specs.Term.{Term, open_term}
+use Rattle.term_core_spec.specs.Value.{Truth, Number, Assignment, value}
 use Rattle.graph_core_spec.specs.declared.Next.{Next}
 use Rattle.graph_core_spec.specs.declared.Next.TheVariants as to
 use Rattle.graph_core_spec.specs.Graph.{Node, Basic, Cond, Call, Graph, Graphs}
-use Rattle.graph_core_spec.specs.Run.{Waiting, State, Running, Returned, Failed, step, act, go, leave, enter, bound, entered, resumed, is_truth}
-use Rattle.decompile_spec.specs.State.{Alike}
-use Rattle.decompile_spec.specs.InstructionTerms.{operand, effects, branch_test}
-use Rattle.decompile_spec.specs.Blocks.{NodeName, Of, Following, Setting, Ending, Does, call_nodes, tail_call_nodes, toward, onward, chain, leaves, call_inputs, tail_inputs, tests_of, ending_of, nodes_at}
-use Rattle.decompile_spec.specs.CodeGraph.{IsNodeAt, of_instruction}
+use Rattle.graph_core_spec.specs.Run.{Waiting, State, Running, Failed, step, act, go, leave, enter, bound, entered, resumed, is_truth}
+use Rattle.decompile_spec.specs.State.{register, entry_register, Alike}
+use Rattle.decompile_spec.specs.InstructionTerms.{operand, effects, branch_test, returns_home}
+use Rattle.decompile_spec.specs.Blocks.{NodeName, Of, Following, Setting, Ending, Does, call_nodes, tail_call_nodes, is_inside, toward, onward, chain, leaves, call_inputs, tail_inputs, tests_of, ending_of, nodes_at, landing_of}
+use Rattle.decompile_spec.specs.CodeGraph.{IsNodeAt, of_instruction, landing}
 use Rattle.decompile_laws.proofs.InstructionTerms.{taken_evaluates}
+use Rattle.decompile_laws.proofs.Values.{equal_evaluates}
 use Rattle.decompile_laws.proofs.Access.{operand_evaluates}
-use Rattle.decompile_laws.specs.Together.{Numbering, setting, AreCodeGraphs, is_node, IsAt, at_entrance, at_landing, in_instruction, Began, AreWaiting, nobody, after_call, Corresponds, corresponds, IsSound}
+use Rattle.decompile_laws.specs.Together.{Numbering, setting, AreCodeGraphs, is_node, IsAt, at_entrance, at_landing, in_instruction, IsAfterAuipc, Began, AreWaiting, nobody, after_call, after_tail_call, EndsByCall, IsTailLanding, tail_landing, Corresponds, corresponds, at_tail_landing, at_home, IsReturning, all_returned, at_landing_node, IsSound}
 use Rattle.decompile_laws.specs.Evaluation.{all_hold}
-use Rattle.decompile_laws.proofs.Reached.{first_in, second_in, is_aligned, inside_range, multiple_there, whole_word, has_instruction, has_flow, stays_inside, calls_function, has_code}
+use Rattle.decompile_laws.proofs.Reached.{first_in, second_in, is_aligned, inside_range, multiple_there, whole_word, has_instruction, has_flow, stays_inside, jumps_inside, calls_function, flow_there, has_code}
+use Rattle.decompile_laws.proofs.Paired.{IsPaired, at_target, at_next, no_auipc, after_falling}
 use Rattle.decompile_laws.proofs.Fetched.{steps_by}
-use Rattle.decompile_laws.proofs.Bound.{moved_alike, call_alike, call_began, resumed_alike, resumed_began}
+use Rattle.decompile_laws.proofs.Bound.{moved_alike, call_alike, call_began, tail_alike, tail_began, resumed_alike, resumed_began}
 use Rattle.decompile_laws.proofs.Fields.{AreFields, fields_at}
 use Rattle.decompile_laws.proofs.Falling.{falls}
-use Rattle.decompile_laws.proofs.Turning.{IsBranch, IsJump, branch_is, branch_does, jump_is, jump_does, call_is, call_does, return_does}
-use Rattle.decompile_laws.proofs.Nodes.{test_in, last_in, begins, onward_node, toward_there, node_there, graph_there}
+use Rattle.decompile_laws.proofs.Turning.{IsBranch, IsTurn, branch_is, branch_does, jump_is, call_is, turn_does, link_nowhere, return_does}
+use Rattle.decompile_laws.proofs.Nodes.{test_in, last_in, begins, onward_node, toward_there, tail_call_long, node_there, graph_there}
 
 -- the address lies in a function that is reached
 pub record IsAmong (image : Image) (entry address : ℕ) : Type 0 where
@@ -52,30 +55,40 @@ pub record Goes_on (image : Image) (entry : ℕ) (n : Numbering) (home : ℕ) (m
   pub does : machine.step m ≡ Some then
   pub sound : IsSound image then
   pub among : IsAmong image entry m.pc
-  pub correspondence : Corresponds image entry n home then after
-
--- the machine returns where the outermost function returns, if it is to a multiple of 4
-pub record Goes_home (image : Image) (entry home : ℕ) (m : Machine) (values : Assignment) : Type 0 where
-  pub then : Machine
-  pub does : machine.step m ≡ Some then
-  pub at_home : then.pc ≡ home
-  pub sound : IsSound image then
-  pub alike : Alike then values
+  pub correspondence : Corresponds image entry n home then 0 after
 
 -- what one step of the run is to the machine, where it does something
 pub data Acts (image : Image) (entry : ℕ) (n : Numbering) (home : ℕ) (m : Machine) : State → Type 0 where
   fails : Acts image entry n home m Failed
   goes_on : (after : State) → Goes_on image entry n home m after → Acts image entry n home m after
-  returns : (values : Assignment) → IsAmong image entry m.pc → (home % 4 ≡ 0 → Goes_home image entry home m values) → Acts image entry n home m (Returned values)
+  -- the outermost function returns, which the machine does too if it is to a multiple of 4
+  returns : (after : State) → IsAmong image entry m.pc → IsReturning image entry n after → (home % 4 ≡ 0 → Goes_on image entry n home m after) → Acts image entry n home m after
 
--- what one step of the run is to the machine: it may wait
-pub data Moves (image : Image) (entry : ℕ) (n : Numbering) (home : ℕ) (m : Machine) (after : State) : Type 0 where
-  acts : Acts image entry n home m after → Moves image entry n home m after
-  waits : Corresponds image entry n home m after → Moves image entry n home m after
+-- what one step of the run is to the machine: it may wait. Of the node of the step and of where the run is in an instruction,
+-- `count` is 1 where the step is one of an instruction
+pub data Moves (image : Image) (entry : ℕ) (n : Numbering) (home : ℕ) (m : Machine) : (count : ℕ) → State → Type 0 where
+  stops : (count : ℕ) → Moves image entry n home m count Failed
+  acts : (after : State) → Acts image entry n home m after → Moves image entry n home m 1 after
+  waits : (begun : ℕ) (after : State) → Corresponds image entry n home m begun after → Moves image entry n home m begun after
 
 -- a machine that a sound one becomes is a machine
 still_machine : (i : Instr) (m then : Machine) → IsMachine m → execute i m ≡ Some then → IsMachine then
 still_machine i m then is does = subst (λ (o : Option Machine). IfSome o IsMachine) does (execute_keeps i m is)
+
+leaving : (f : Setting) (target : ℕ) → target % 4 ≡ 0 → (InRange f.entry f.size target → ⊥) → leaves f target ≡ true
+leaving f target whole_target outside = ap (λ (x : Bool). x && not (is_inside f target)) (eq-eqb (target % 4) 0 whole_target) ∙ by (is_inside f target) refl
+  where
+    by : (b : Bool) → is_inside f target ≡ b → (true && not b) ≡ true
+    by false e = refl
+    by true e =
+        let sides = and_parts (nat_le f.entry target) (nat_lt target (f.entry + f.size)) e in
+        absurd (outside (record { from = leb-true f.entry target sides.0; below = ltb-true target (f.entry + f.size) sides.1 }))
+
+-- the test of a return
+pub home_evaluates : (values : Assignment) (m : Machine) (back : ℕ) → Alike m values → Began values back → value values returns_home ≡ Truth (read_register m 1 == back)
+unfolding value
+home_evaluates values m back alike began =
+    equal_evaluates values (open_term (register 1)) (open_term (entry_register 1)) (read_register m 1) back (alike.registers 1 (λ e. absurd (omega arith)) (omega arith)) began
 
 not_leaving : (f : Setting) (target : ℕ) → InRange f.entry f.size target → leaves f target ≡ false
 not_leaving f target inside = rw (le-leb f.entry target inside.from, lt-ltb target (f.entry + f.size) inside.below) (off (target % 4 == 0))
@@ -97,18 +110,35 @@ after_first a target e = rw (eq-eqb (target % 4) 0 e) (second_in a target)
 
 module _ (image : Image) (entry : ℕ) (n : Numbering) (graphs : Graphs) (home : ℕ) (no_fault : ReachesNoFault image entry) (whole : AreCodeGraphs image entry n graphs) where
   pub clean : (function size : ℕ) → Reaches image entry function → size_at image function ≡ Some size → HasNoFault image function size
-  clean function size reached sized = each_without image entry function size no_fault (direct-reaches image entry function no_fault reached) sized
+  clean function size reached sized = each_without image entry function size no_fault reached sized
 
   runs_are : (function size : ℕ) → Reaches image entry function → size_at image function ≡ Some size → AreRuns image n.runs
   runs_are function size reached sized = (whole.each function size reached sized).2.runs_are
 
+  -- the landing node after a tail call, and the step at it
+  pub tail_node : (function size address target : ℕ) → EndsByCall image entry function size address target
+      → IsNodeAt image (setting n function size) (Following address tail_call_nodes) (Basic [] to.Ret)
+  unfolding landing_of
+  tail_node function size address target ends =
+      let there = has_instruction image function size address (clean function size ends.reached ends.sized) ends.there in
+      landing address tail_call_nodes there.0 (Jumps target) to.Ret ends.there there.1 ends.flow_is
+      (tail_call_long (setting n function size) address there.0 target ends.leaves) (ap (λ (b : Bool). cond b (Some to.Ret) None) ends.leaves)
+
+  pub tail_lands : (graph node : ℕ) (values : Assignment) (below : List Waiting) → IsTailLanding image entry n graph node
+      → step graphs (Running graph node values below) ≡ leave values below
+  unfolding step
+  tail_lands _ _ values below (tail_landing function size address target ends) =
+      ap (act graphs (n.graph_number function) (n.node_number function (Following address tail_call_nodes)) values below)
+      (node_there image entry n graphs whole function size (Following address tail_call_nodes) (Basic [] to.Ret) ends.reached ends.sized (tail_node function size address target ends))
+      ∙ ap (λ (v : Assignment). leave v below) (nothing_bound values)
+
   -- the first node of an instruction that is reached
   pub start_at : (function size address : ℕ) (values : Assignment) → Reaches image entry function → size_at image function ≡ Some size → IsReachable image function size address
-      → IsAt image (setting n function size) values address (n.node_number function (Of address 0))
-  start_at function size address values reached sized there =
+      → IsPaired image function values address → IsAt image (setting n function size) values address (n.node_number function (Of address 0)) 0
+  start_at function size address values reached sized there paired =
       let found = has_instruction image function size address (clean function size reached sized) there in
       let flow = has_flow image function address found.0 found.1 in
-      in_instruction found.0 flow.0 [] (tests_of (setting n function size) found.0 flow.0) there found.1 flow.1 refl refl
+      in_instruction found.0 flow.0 [] (tests_of (setting n function size) found.0 flow.0) there found.1 flow.1 (paired found.0 flow.0 found.1 flow.1) refl refl
       (begins (setting n function size) address found.0 flow.0)
 
   module _ (function size : ℕ) (reached : Reaches image entry function) (sized : size_at image function ≡ Some size) (m : Machine) (ok : IsSound image m)
@@ -189,34 +219,41 @@ module _ (image : Image) (entry : ℕ) (n : Numbering) (graphs : Graphs) (home :
       known : HasNoFault image function size
       known = clean function size reached sized
 
+      abbrev previous : Option Instr
+      previous = instr_before image function m.pc
+
+      from : function ≤ m.pc
+      from = (inside_range image function size m.pc there).from
+
       -- on to an instruction of the function
       arrives : (target : ℕ) (then : Machine) (after : Assignment) → execute i m ≡ Some then → HoldsFixed image then.memory → then.pc ≡ target
-          → IsReachable image function size target → Alike then after → Began after back
+          → IsReachable image function size target → IsPaired image function after target → Alike then after → Began after back
           → Goes_on image entry n home m (Running g (n.node_number function (Of target 0)) after below)
-      arrives target then after does fixed pc_is reach same start = record {
+      arrives target then after does fixed pc_is reach paired same start = record {
         then = then;
         does = steps ∙ does;
         sound = record { is_machine = still_machine i m then ok.is_machine does; fixed = fixed };
         among = among there;
-        correspondence = corresponds function size _ back after below reached sized
-            (subst (λ p. IsAt image f after p (n.node_number function (Of target 0))) (sym pc_is) (start_at function size target after reached sized reach)) same start waiting;
+        correspondence = corresponds function size _ 0 back after below reached sized
+            (subst (λ p. IsAt image f after p (n.node_number function (Of target 0)) 0) (sym pc_is) (start_at function size target after reached sized reach paired)) same start waiting;
       }
 
       moved_to : (after : State) → step graphs here_now ≡ after → Acts image entry n home m after → Acts image entry n home m (step graphs here_now)
       moved_to after e moves = subst (Acts image entry n home m) (sym e) moves
 
       -- to the next instruction
-      by_falling : flow_at image function m.pc ≡ Some Falls → flow_of None m.pc i ≡ Falls → tests_of f i Falls ≡ passed → all_hold values passed ≡ true
+      by_falling : flow_at image function m.pc ≡ Some Falls → flow_of previous m.pc i ≡ Falls → tests_of f i Falls ≡ passed → all_hold values passed ≡ true
           → Acts image entry n home m (step graphs here_now)
       unfolding ending_of tests_of
       by_falling flow_is alone tests hold =
-          let fell = falls image m values back ok alike began n.runs (runs_are function size reached sized) i fields alone (subst (λ (ts : List Term). all_hold values ts ≡ true) (sym tests) hold) in
-          let inside = stays_inside image function size m.pc known there i (m.pc + 4) is (subst (λ (fl : Flow). Contains (goes_to m.pc fl) (m.pc + 4)) (sym alone) (first_in (m.pc + 4) [])) in
+          let fell = falls image m values back ok alike began n.runs (runs_are function size reached sized) previous i fields alone (subst (λ (ts : List Term). all_hold values ts ≡ true) (sym tests) hold) in
+          let inside = stays_inside image function size m.pc known there Falls (m.pc + 4) flow_is (first_in (m.pc + 4) []) (λ e. absurd (cc)) in
           let reach = next m.pc (m.pc + 4) Falls there flow_is (first_in (m.pc + 4) []) inside in
           let pc_is : fell.then.pc ≡ m.pc + 4 = omega (arith, fell.pc_is, (has_code image function size m.pc there).range_fixed.in_space, inside.below) in
           moved_to _ (at_last Falls _ flow_is tests refl
           ∙ ap (λ (x : Next). go g x (bound (effects m.pc i) values values) below) (toward_there f (m.pc + 4) (multiple_there image function size (m.pc + 4) reach) inside))
-          (goes_on _ (arrives (m.pc + 4) fell.then _ fell.does fell.fixed pc_is reach fell.alike fell.began))
+          (goes_on _ (arrives (m.pc + 4) fell.then _ fell.does fell.fixed pc_is reach
+          (after_falling image function m fell.then _ i from is fields ok.is_machine.count fell.does fell.alike) fell.alike fell.began))
 
       -- an error
       by_error : (flow : Flow) → flow_at image function m.pc ≡ Some flow → tests_of f i flow ≡ passed → ending_of f m.pc i flow ≡ Does (Basic [] to.Err)
@@ -224,19 +261,36 @@ module _ (image : Image) (entry : ℕ) (n : Numbering) (graphs : Graphs) (home :
       by_error flow flow_is tests ends = moved_to Failed (at_last flow (Basic [] to.Err) flow_is tests ends) fails
 
       -- by a jump or a branch that is taken, if the target is aligned
-      to_target : (target : ℕ) (flow : Flow) → flow_at image function m.pc ≡ Some flow → Contains (nexts_of m.pc flow) target → InRange function size target
+      to_target : (target : ℕ) (flow : Flow) → flow_at image function m.pc ≡ Some flow → Contains (nexts_of m.pc flow) target → Contains (targets_of flow) target → InRange function size target
           → execute i m ≡ Some (record m { pc = target }) → Goes_on image entry n home m (Running g (n.node_number function (Of target 0)) values below)
-      to_target target flow flow_is among_them inside does =
-          arrives target (record m { pc = target }) values does ok.fixed refl (next m.pc target flow there flow_is among_them inside) (moved_alike values m target alike) began
+      to_target target flow flow_is among_them aimed inside does =
+          let reach = next m.pc target flow there flow_is among_them inside in
+          arrives target (record m { pc = target }) values does ok.fixed refl reach
+          (at_target image function size target values known reach (target_of_reached m.pc target flow there flow_is aimed)) (moved_alike values m target alike) began
+
+      -- what the machine does at a jump or a call, also by a pair
+      turned : (rd target : ℕ) (flow : Flow) → IsTurn previous m.pc rd target i → ((base : ℕ) (offset : ℤ) → is_pair (Jalr rd base offset) flow ≡ true)
+          → IsAfterAuipc values previous m.pc i flow → execute i m ≡ machine.link rd target m
+      turned rd target flow turn pairs paired = turn_does previous m rd target i turn (λ base imm offset jalr auipc nonzero. held_by base imm offset jalr auipc nonzero)
+        where
+          same_number : (a b : ℕ) → Number W32 a ≡ Number W32 b → a ≡ b
+          same_number a b e = cc
+
+          held_by : (base imm : ℕ) (offset : ℤ) → i ≡ Jalr rd base offset → previous ≡ Some (Auipc base imm) → base ≢ 0
+              → read_register m base ≡ past (m.pc - 4) (imm * 2 ^ 12)
+          held_by base imm offset jalr auipc nonzero =
+              let numbers : (rd < 32) × (base < 32) = subst AreFields jalr fields in
+              same_number _ _ (sym (alike.registers base nonzero numbers.1)
+              ∙ paired base imm auipc (ap (λ (j : Instr). is_pair j flow) jalr ∙ pairs base offset) nonzero)
 
       -- a branch
-      by_branch : (target : ℕ) → flow_at image function m.pc ≡ Some (Branches target) → flow_of None m.pc i ≡ Branches target → tests_of f i (Branches target) ≡ passed
+      by_branch : (target : ℕ) → flow_at image function m.pc ≡ Some (Branches target) → flow_of previous m.pc i ≡ Branches target → tests_of f i (Branches target) ≡ passed
           → Acts image entry n home m (step graphs here_now)
       unfolding ending_of tests_of branch_test
       by_branch target flow_is alone tests = at (holds b.test (read_register m b.left) (read_register m b.right)) refl
         where
           b : IsBranch i m.pc target
-          b = branch_is i m.pc target alone
+          b = branch_is previous i m.pc target alone
 
           sides : (b.left < 32) × (b.right < 32)
           sides = subst AreFields b.is fields
@@ -252,7 +306,7 @@ module _ (image : Image) (entry : ℕ) (n : Numbering) (graphs : Graphs) (home :
               ∙ ap (λ t. cond (holds b.test (read_register m b.left) (read_register m b.right)) (goto t m) (Some (machine.next m))) (sym b.target_is)
 
           stays : (t : ℕ) → Contains ((m.pc + 4) ∷ target ∷ []) t → InRange function size t
-          stays t among_them = stays_inside image function size m.pc known there i t is (subst (λ (fl : Flow). Contains (goes_to m.pc fl) t) (sym alone) among_them)
+          stays t among_them = stays_inside image function size m.pc known there (Branches target) t flow_is among_them (λ e. absurd (cc))
 
           on_step : (x : Bool) → is_truth (value values (branch_test i)) ≡ x
               → step graphs here_now ≡ go g (cond x (toward f target) (toward f (m.pc + 4))) values below
@@ -266,7 +320,7 @@ module _ (image : Image) (entry : ℕ) (n : Numbering) (graphs : Graphs) (home :
               let inside = stays target (second_in (m.pc + 4) target) in
               let taken_on : goto target m ≡ Some (record m { pc = target }) = rw even refl in
               moved_to _ (e ∙ ap (λ (x : Next). go g x values below) (toward_there f target whole_target inside))
-              (goes_on _ (to_target target (Branches target) flow_is (after_first (m.pc + 4) target whole_target) inside (done ∙ taken_on)))
+              (goes_on _ (to_target target (Branches target) flow_is (after_first (m.pc + 4) target whole_target) (first_in target []) inside (done ∙ taken_on)))
           taken_so false odd done e = moved_to Failed (e ∙ ap (λ (x : Next). go g x values below) (misaligned f target odd)) fails
 
           at : (x : Bool) → holds b.test (read_register m b.left) (read_register m b.right) ≡ x → Acts image entry n home m (step graphs here_now)
@@ -277,46 +331,100 @@ module _ (image : Image) (entry : ℕ) (n : Numbering) (graphs : Graphs) (home :
               let pc_is : past m.pc 4 ≡ m.pc + 4 = omega (arith, (has_code image function size m.pc there).range_fixed.in_space, inside.below) in
               moved_to _ (on_step false (result ∙ e) ∙ ap (λ (x : Next). go g x values below) (toward_there f (m.pc + 4) (multiple_there image function size (m.pc + 4) reach) inside))
               (goes_on _ (arrives (m.pc + 4) (machine.next m) values (does ∙ ap (λ (y : Bool). cond y (goto target m) (Some (machine.next m))) e) ok.fixed pc_is reach
+              (at_next image function m.pc values i from is (λ r imm auipc nonzero. absurd (no_auipc previous m.pc i (Branches target) alone (λ x. absurd (cc)) r imm auipc)))
               (moved_alike values m (past m.pc 4) alike) began))
 
-      -- a jump
-      by_jump : (target : ℕ) → flow_at image function m.pc ≡ Some (Jumps target) → flow_of None m.pc i ≡ Jumps target → tests_of f i (Jumps target) ≡ passed
+      -- what a jump ends with
+      jump_ends : (target : ℕ) (b : Bool) → leaves f target ≡ b
+          → ending_of f m.pc i (Jumps target) ≡ Does (cond b (Call (n.graph_number target) tail_inputs [] (n.node_number function (Following m.pc tail_call_nodes))) (Basic [] (toward f target)))
+      unfolding ending_of
+      jump_ends target b e =
+          ap (λ (x : Bool). Does (cond x (Call (n.graph_number target) tail_inputs [] (n.node_number function (Following m.pc tail_call_nodes))) (Basic [] (toward f target)))) e
+
+      -- a jump to no multiple of 4
+      by_odd_jump : (target : ℕ) → flow_at image function m.pc ≡ Some (Jumps target) → tests_of f i (Jumps target) ≡ passed → (target % 4 == 0) ≡ false
           → Acts image entry n home m (step graphs here_now)
-      unfolding ending_of tests_of
-      by_jump target flow_is alone tests = at (target % 4 == 0) refl
+      by_odd_jump target flow_is tests odd = moved_to Failed
+          (at_last (Jumps target) (Basic [] (toward f target)) flow_is tests (jump_ends target false (ap (λ (x : Bool). x && not (is_inside f target)) odd))
+          ∙ ap (λ (x : Next). go g x (bound [] values values) below) (misaligned f target odd)) fails
+
+      -- a jump inside the range
+      by_near_jump : (target : ℕ) → flow_at image function m.pc ≡ Some (Jumps target) → tests_of f i (Jumps target) ≡ passed → InRange function size target
+          → target % 4 ≡ 0 → execute i m ≡ Some (record m { pc = target }) → Acts image entry n home m (step graphs here_now)
+      by_near_jump target flow_is tests inside whole_target does =
+          moved_to _ (at_last (Jumps target) (Basic [] (toward f target)) flow_is tests (jump_ends target false (not_leaving f target inside))
+          ∙ ap (λ (x : Next). go g x (bound [] values values) below) (toward_there f target whole_target inside)
+          ∙ ap (λ (v : Assignment). Running g (n.node_number function (Of target 0)) v below) (nothing_bound values))
+          (goes_on _ (to_target target (Jumps target) flow_is (is_aligned target whole_target) (first_in target []) inside does))
+
+      -- a tail call
+      by_tail_call : (target : ℕ) → flow_at image function m.pc ≡ Some (Jumps target) → tests_of f i (Jumps target) ≡ passed → all_hold values passed ≡ true
+          → (InRange function size target → ⊥) → IsSome (size_at image target) → target % 4 ≡ 0 → execute i m ≡ Some (record m { pc = target })
+          → Acts image entry n home m (step graphs here_now)
+      unfolding tests_of
+      by_tail_call target flow_is tests hold outside some whole_target does = called (size_at image target) refl some
         where
-          j : IsJump i m.pc 0 target
-          j = jump_is i m.pc target alone
+          far : leaves f target ≡ true
+          far = leaving f target whole_target outside
 
-          inside : InRange function size target
-          inside = stays_inside image function size m.pc known there i target is (subst (λ (fl : Flow). Contains (goes_to m.pc fl) target) (sym alone) (first_in target []))
+          held : Waiting
+          held = record { graph = g; call = n.node_number function (Of m.pc (length passed)); landing = n.node_number function (Following m.pc tail_call_nodes); outputs = []; values = values }
 
-          ends : ending_of f m.pc i (Jumps target) ≡ Does (Basic [] (toward f target))
-          ends = ap (λ (b : Bool). Does (cond b (Call (n.graph_number target) tail_inputs [] (n.node_number function (Following m.pc tail_call_nodes))) (Basic [] (toward f target)))) (not_leaving f target inside)
+          tested : all_hold values (returns_home ∷ []) ≡ true
+          tested = subst (λ (ts : List Term). all_hold values ts ≡ true) (sym (ap (λ (x : Bool). cond x (returns_home ∷ []) []) (sym far) ∙ tests)) hold
 
+          at_back : read_register m 1 ≡ back
+          at_back = eqb-true (read_register m 1) back
+              (sym (ap is_truth (home_evaluates values m back alike began)) ∙ (and_parts (is_truth (value values returns_home)) true tested).0)
+
+          began_there : Began (entered tail_inputs values) back
+          began_there = tail_began values back (alike.registers 1 (λ e. absurd (omega arith)) (omega arith) ∙ ap (λ v. Number W32 v) at_back)
+
+          on_step : step graphs here_now ≡ enter (n.graph_number target) (slice_get graphs (n.graph_number target)) (entered tail_inputs values) (held ∷ below)
+          on_step = at_last (Jumps target) _ flow_is tests (jump_ends target true far)
+
+          called : (o : Option ℕ) → size_at image target ≡ o → IsSome o → Acts image entry n home m (step graphs here_now)
+          called None e is_there = absurd (cc)
+          called (Some callee_size) e is_there =
+              let reach : Reaches image entry target = further function size target reached sized (tail m.pc target there flow_is outside some) in
+              let graph = graph_there image entry n graphs whole target callee_size reach e in
+              moved_to _ (on_step ∙ ap (λ (o : Option Graph). enter (n.graph_number target) o (entered tail_inputs values) (held ∷ below)) graph.1
+              ∙ ap (λ k. Running (n.graph_number target) k (entered tail_inputs values) (held ∷ below)) graph.2)
+              (goes_on _ (record {
+                then = record m { pc = target };
+                does = steps ∙ does;
+                sound = record { is_machine = still_machine i m (record m { pc = target }) ok.is_machine does; fixed = ok.fixed };
+                among = among there;
+                correspondence = corresponds target callee_size _ 0 back (entered tail_inputs values) (held ∷ below) reach e (at_entrance refl)
+                    (moved_alike (entered tail_inputs values) m target (tail_alike values m alike)) began_there
+                    (after_tail_call function size m.pc target (n.node_number function (Of m.pc (length passed))) back values below
+                    (record { reached = reached; sized = sized; there = there; flow_is = flow_is; leaves = far }) began waiting);
+              }))
+
+      -- a jump
+      by_jump : (target : ℕ) → flow_at image function m.pc ≡ Some (Jumps target) → flow_of previous m.pc i ≡ Jumps target → IsAfterAuipc values previous m.pc i (Jumps target)
+          → tests_of f i (Jumps target) ≡ passed → all_hold values passed ≡ true → Acts image entry n home m (step graphs here_now)
+      by_jump target flow_is alone paired tests hold = at (target % 4 == 0) refl
+        where
           does : execute i m ≡ machine.aligned 4 target (record m { pc = target })
-          does = ap (λ (k : Instr). execute k m) j.is ∙ jump_does m j.offset ∙ ap (λ t. machine.aligned 4 t (record m { pc = t })) (sym j.target_is)
-
-          on_step : step graphs here_now ≡ go g (toward f target) (bound [] values values) below
-          on_step = at_last (Jumps target) (Basic [] (toward f target)) flow_is tests ends
+          does = turned 0 target (Jumps target) (jump_is previous i m.pc target alone) (λ base offset. refl) paired ∙ link_nowhere m target
 
           at : (t : Bool) → (target % 4 == 0) ≡ t → Acts image entry n home m (step graphs here_now)
           at true even =
               let whole_target : target % 4 ≡ 0 = eqb-true (target % 4) 0 even in
               let done : machine.aligned 4 target (record m { pc = target }) ≡ Some (record m { pc = target }) = rw even refl in
-              moved_to _ (on_step ∙ ap (λ (x : Next). go g x (bound [] values values) below) (toward_there f target whole_target inside) ∙ ap (λ (v : Assignment). Running g (n.node_number function (Of target 0)) v below) (nothing_bound values))
-              (goes_on _ (to_target target (Jumps target) flow_is (is_aligned target whole_target) inside (does ∙ done)))
-          at false odd = moved_to Failed (on_step ∙ ap (λ (x : Next). go g x (bound [] values values) below) (misaligned f target odd)) fails
+              elim (jumps_inside image function size m.pc known there target flow_is) [
+                | inl inside ↦ by_near_jump target flow_is tests inside whole_target (does ∙ done)
+                | inr far ↦ by_tail_call target flow_is tests hold far.0 far.1 whole_target (does ∙ done)
+              ]
+          at false odd = by_odd_jump target flow_is tests odd
 
       -- a call
-      by_call : (target : ℕ) → flow_at image function m.pc ≡ Some (Calls target) → flow_of None m.pc i ≡ Calls target → tests_of f i (Calls target) ≡ passed
-          → Acts image entry n home m (step graphs here_now)
+      by_call : (target : ℕ) → flow_at image function m.pc ≡ Some (Calls target) → flow_of previous m.pc i ≡ Calls target → IsAfterAuipc values previous m.pc i (Calls target)
+          → tests_of f i (Calls target) ≡ passed → Acts image entry n home m (step graphs here_now)
       unfolding ending_of tests_of
-      by_call target flow_is alone tests = at (target % 4 == 0) refl
+      by_call target flow_is alone paired tests = at (target % 4 == 0) refl
         where
-          j : IsJump i m.pc 1 target
-          j = call_is i m.pc target alone
-
           ends : (t : Bool) → (target % 4 == 0) ≡ t
               → ending_of f m.pc i (Calls target) ≡ Does (cond t (Call (n.graph_number target) (call_inputs (past m.pc 4)) [] (n.node_number function (Following m.pc call_nodes))) (Basic [] to.Err))
           ends t e = ap (λ (b : Bool). Does (cond b (Call (n.graph_number target) (call_inputs (past m.pc 4)) [] (n.node_number function (Following m.pc call_nodes))) (Basic [] to.Err))) e
@@ -325,7 +433,7 @@ module _ (image : Image) (entry : ℕ) (n : Numbering) (graphs : Graphs) (home :
           then = record (write_register m 1 (past m.pc 4)) { pc = target }
 
           does : execute i m ≡ machine.aligned 4 target then
-          does = ap (λ (k : Instr). execute k m) j.is ∙ call_does m j.offset ∙ ap (λ t. machine.aligned 4 t (record (write_register m 1 (past m.pc 4)) { pc = t })) (sym j.target_is)
+          does = turned 1 target (Calls target) (call_is previous i m.pc target alone) (λ base offset. refl) paired
 
           held : Waiting
           held = record { graph = g; call = n.node_number function (Of m.pc (length passed)); landing = n.node_number function (Following m.pc call_nodes); outputs = []; values = values }
@@ -345,7 +453,7 @@ module _ (image : Image) (entry : ℕ) (n : Numbering) (graphs : Graphs) (home :
                 does = steps ∙ done;
                 sound = record { is_machine = still_machine i m then ok.is_machine done; fixed = subst (HoldsFixed image) (sym (memory-write m 1 (past m.pc 4))) ok.fixed };
                 among = among there;
-                correspondence = corresponds target callee_size _ (past m.pc 4) (entered (call_inputs (past m.pc 4)) values) (held ∷ below) reach e (at_entrance refl)
+                correspondence = corresponds target callee_size _ 0 (past m.pc 4) (entered (call_inputs (past m.pc 4)) values) (held ∷ below) reach e (at_entrance refl)
                     (moved_alike _ (write_register m 1 (past m.pc 4)) target (call_alike values m (past m.pc 4) ok.is_machine.count alike))
                     (call_began values (past m.pc 4))
                     (after_call function size m.pc target (n.node_number function (Of m.pc (length passed))) back values below reached sized there flow_is whole_target began waiting);
@@ -354,51 +462,70 @@ module _ (image : Image) (entry : ℕ) (n : Numbering) (graphs : Graphs) (home :
           at : (t : Bool) → (target % 4 == 0) ≡ t → Acts image entry n home m (step graphs here_now)
           at true even =
               let done : machine.aligned 4 target then ≡ Some then = rw even refl in
-              called (size_at image target) refl (calls_function image function size m.pc known there i target is alone) (eqb-true (target % 4) 0 even) (does ∙ done)
+              called (size_at image target) refl (calls_function image function size m.pc known there target flow_is) (eqb-true (target % 4) 0 even) (does ∙ done)
               (at_last (Calls target) _ flow_is tests (ends true even))
           at false odd = by_error (Calls target) flow_is tests (ends false odd)
 
       -- each flow but a return
-      pub last_moves : (flow : Flow) → flow_at image function m.pc ≡ Some flow → flow ≡ flow_of None m.pc i → is_indirect i (flow_of None m.pc i) ≡ false
+      pub last_moves : (flow : Flow) → flow_at image function m.pc ≡ Some flow → IsAfterAuipc values previous m.pc i flow
           → tests_of f i flow ≡ passed → all_hold values passed ≡ true → is_node [] (ending_of f m.pc i flow) ≡ true → Acts image entry n home m (step graphs here_now)
       unfolding ending_of
-      last_moves Falls flow_is alone direct tests hold node = by_falling flow_is (sym alone) tests hold
-      last_moves (Branches target) flow_is alone direct tests hold node = by_branch target flow_is (sym alone) tests
-      last_moves (Jumps target) flow_is alone direct tests hold node = by_jump target flow_is (sym alone) tests
-      last_moves (Calls target) flow_is alone direct tests hold node = by_call target flow_is (sym alone) tests
-      last_moves (Links target) flow_is alone direct tests hold node = by_error (Links target) flow_is tests refl
-      last_moves Returns flow_is alone direct tests hold node = absurd (cc)
-      last_moves Stops flow_is alone direct tests hold node = by_error Stops flow_is tests refl
+      last_moves Falls flow_is paired tests hold node = by_falling flow_is (flow_there image function m.pc i Falls is flow_is) tests hold
+      last_moves (Branches target) flow_is paired tests hold node = by_branch target flow_is (flow_there image function m.pc i (Branches target) is flow_is) tests
+      last_moves (Jumps target) flow_is paired tests hold node = by_jump target flow_is (flow_there image function m.pc i (Jumps target) is flow_is) paired tests hold
+      last_moves (Calls target) flow_is paired tests hold node = by_call target flow_is (flow_there image function m.pc i (Calls target) is flow_is) paired tests
+      last_moves (Links target) flow_is paired tests hold node = by_error (Links target) flow_is tests refl
+      last_moves Returns flow_is paired tests hold node = absurd (cc)
+      last_moves Stops flow_is paired tests hold node = by_error Stops flow_is tests refl
 
 -- ---- a return
 
 module _ (image : Image) (entry : ℕ) (n : Numbering) (graphs : Graphs) (home : ℕ) (no_fault : ReachesNoFault image entry) (whole : AreCodeGraphs image entry n graphs)
-    (m : Machine) (ok : IsSound image m) (values : Assignment) (alike : Alike m values) (among_them : IsAmong image entry m.pc)
+    (m : Machine) (ok : IsSound image m) (among_them : IsAmong image entry m.pc)
     (i : Instr) (fetched : machine.step m ≡ execute i m) (is_return : i ≡ Jalr 0 1 (pos 0)) where
-  -- to the function that waits, or home
-  pub comes_back : (below : List Waiting) (back : ℕ) → AreWaiting image entry n home below back → read_register m 1 ≡ back → Acts image entry n home m (leave values below)
-  comes_back _ _ nobody same =
-      returns values among_them (λ even. record {
-        then = record m { pc = home };
-        does = fetched ∙ ap (λ (k : Instr). execute k m) is_return ∙ return_does m home same (omega (arith, same, read_below m 1 ok.is_machine)) even;
-        at_home = refl;
-        sound = record {
-          is_machine = still_machine (Jalr 0 1 (pos 0)) m (record m { pc = home }) ok.is_machine (return_does m home same (omega (arith, same, read_below m 1 ok.is_machine)) even);
-          fixed = ok.fixed;
-        };
-        alike = moved_alike values m home alike;
-      })
-  comes_back _ _ (after_call function size address target node back waited below reached sized there flow_is even began waiting) same =
+  -- the machine that is back, and the run that goes on there
+  back_there : (below : List Waiting) (back : ℕ) → AreWaiting image entry n home below back → (values : Assignment) → Alike m values
+      → Corresponds image entry n home (record m { pc = back }) 0 (leave values below)
+  back_there _ _ nobody values alike = at_home values refl (moved_alike values m home alike)
+  back_there _ _ (after_call function size address target node back waited below reached sized there flow_is even began waiting) values alike =
+      corresponds function size (n.node_number function (Following address call_nodes)) 0 back (resumed [] values waited) below reached sized
+      (at_landing address target there flow_is even refl)
+      (resumed_alike values waited (record m { pc = past address 4 }) (moved_alike values m (past address 4) alike))
+      (resumed_began values waited back began) waiting
+  back_there _ _ (after_tail_call function size address target node back waited below ends began waiting) values alike =
+      at_tail_landing _ _ (resumed [] values waited) below (tail_landing function size address target ends)
+      (moved_alike (resumed [] values waited) m back (resumed_alike values waited m alike))
+      (back_there below back waiting (resumed [] values waited) (resumed_alike values waited m alike))
+
+  -- it is back at a multiple of 4, or all functions return
+  whole_or_home : (below : List Waiting) (back : ℕ) → AreWaiting image entry n home below back → (values : Assignment)
+      → (back % 4 ≡ 0) ⊎ (IsReturning image entry n (leave values below) × (back ≡ home))
+  whole_or_home _ _ nobody values = inr (all_returned values, refl)
+  whole_or_home _ _ (after_call function size address target node back waited below reached sized there flow_is even began waiting) values =
       let here_even : address % 4 ≡ 0 = multiple_there image function size address there in
-      let back_even : past address 4 % 4 ≡ 0 = omega (arith, here_even, whole_word image function size address there) in
-      let returned : execute (Jalr 0 1 (pos 0)) m ≡ Some (record m { pc = past address 4 }) = return_does m (past address 4) same (omega arith) back_even in
-      goes_on _ (record {
-        then = record m { pc = past address 4 };
-        does = fetched ∙ ap (λ (k : Instr). execute k m) is_return ∙ returned;
-        sound = record { is_machine = still_machine (Jalr 0 1 (pos 0)) m (record m { pc = past address 4 }) ok.is_machine returned; fixed = ok.fixed };
-        among = among_them;
-        correspondence = corresponds function size (n.node_number function (Following address call_nodes)) back (resumed [] values waited) below reached sized
-            (at_landing address target there flow_is even refl)
-            (resumed_alike values waited (record m { pc = past address 4 }) (moved_alike values m (past address 4) alike))
-            (resumed_began values waited back began) waiting;
-      })
+      inl (omega (arith, here_even, whole_word image function size address there))
+  whole_or_home _ _ (after_tail_call function size address target node back waited below ends began waiting) values =
+      elim (whole_or_home below back waiting (resumed [] values waited)) [
+        | inl whole_back ↦ inl whole_back
+        | inr rest ↦ inr (at_landing_node _ _ (resumed [] values waited) below (tail_landing function size address target ends) rest.0, rest.1)
+      ]
+
+  -- to the function that waits, or home
+  pub comes_back : (below : List Waiting) (back : ℕ) (values : Assignment) → Alike m values → AreWaiting image entry n home below back → read_register m 1 ≡ back
+      → Acts image entry n home m (leave values below)
+  comes_back below back values alike waiting same = elim (whole_or_home below back waiting values) [
+    | inl whole_back ↦ goes_on _ (goes whole_back)
+    | inr rest ↦ returns _ among_them rest.0 (λ even. goes (omega (arith, even, rest.1)))
+  ]
+    where
+      goes : back % 4 ≡ 0 → Goes_on image entry n home m (leave values below)
+      goes whole_back =
+          let low : back < 2 ^ 32 = omega (arith, same, read_below m 1 ok.is_machine) in
+          let done : execute (Jalr 0 1 (pos 0)) m ≡ Some (record m { pc = back }) = return_does m back same low whole_back in
+          record {
+            then = record m { pc = back };
+            does = fetched ∙ ap (λ (k : Instr). execute k m) is_return ∙ done;
+            sound = record { is_machine = still_machine (Jalr 0 1 (pos 0)) m (record m { pc = back }) ok.is_machine done; fixed = ok.fixed };
+            among = among_them;
+            correspondence = back_there below back waiting values alike;
+          }

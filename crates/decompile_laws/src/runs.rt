@@ -5,6 +5,7 @@
 //! Nothing of the crate runs: each function's clause is one law, and its body is empty.
 
 ghost use Rattle.decompile_laws.specs.Together.{StepsTogether, ReturnsTogether};
+ghost use Rattle.decompile_laws.specs.Together.{InstructionsAreCounted};
 
 /// From every machine at the entry of a function that holds the fixed bytes, and a run of the
 /// function's graph whose variables are like it: however many steps the machine goes, the run of
@@ -20,4 +21,10 @@ pub fn machine_and_graphs_step_together()
 /// so where it traps the graphs fail.
 pub fn machine_and_graphs_return_together()
     ensures { ReturnsTogether }
+{}
+
+/// Where the graphs return, the machine has come home by as many instructions as the run has passed
+/// nodes at which an instruction begins.
+pub fn instructions_are_counted()
+    ensures { InstructionsAreCounted }
 {}

@@ -7,12 +7,11 @@ use Rattle.memory_spec.proofs.Runs.{le_true}
 use Rattle.elf_read_spec.specs.Image.{Image, Symbol, fixed_byte, size_at}
 use Rattle.rv_instr.specs.Instr.{instr, instr_of, instr_of_immediate}
 use Rattle.code_reach_spec.specs.Code.{instr_at, Flow, Falls, Jumps, Calls, Returns, flow_at, nexts_of, InRange, HasCode, IsReachable, here, next, AreReachable, CallsOn, call, tail, IsStack, deep}
-use Rattle.code_reach_spec.specs.Faults.{direct_flow}
-use Rattle.example_laws.specs.CodeSamples.{image_with, pair, tail_call, circle, frame, frame_bytes}
+use Rattle.example_laws.specs.CodeSamples.{image_with, pair, tail_call, circle, frame, frame_bytes, entered_pair, stray, pair_by_x1}
 
 -- what computes a flow
 unfoldable pub code_computes : ⊤
-unfolding instr instr_of instr_of_immediate instr_at flow_at direct_flow fixed_byte size_at pair tail_call circle frame
+unfolding instr instr_of instr_of_immediate instr_at flow_at fixed_byte size_at pair tail_call circle frame entered_pair stray pair_by_x1
 code_computes = tt
 
 -- the bytes of the one segment are fixed

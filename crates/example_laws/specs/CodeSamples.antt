@@ -44,3 +44,24 @@ frame_bytes = bytes_of (0xff010113 ∷ 0x00008067 ∷ [])
 
 unfoldable pub frame : Image
 frame = image_with frame_bytes (function (codes "f") 0x10000 8 ∷ [])
+
+-- f: beq x0,x0,+8; auipc x5,0; jalr x0,8(x5); ret. The branch goes to the JALR
+abbrev pub entered_pair_bytes : List ℕ
+entered_pair_bytes = bytes_of (0x00000463 ∷ 0x00000297 ∷ 0x00828067 ∷ 0x00008067 ∷ [])
+
+unfoldable pub entered_pair : Image
+entered_pair = image_with entered_pair_bytes (function (codes "f") 0x10000 16 ∷ [])
+
+-- f: jal x0,+8. g: ret; ret. The jump goes into g
+abbrev pub stray_bytes : List ℕ
+stray_bytes = bytes_of (0x0080006f ∷ 0x00008067 ∷ 0x00008067 ∷ [])
+
+unfoldable pub stray : Image
+stray = image_with stray_bytes (function (codes "f") 0x10000 4 ∷ function (codes "g") 0x10004 8 ∷ [])
+
+-- f: auipc x1,0; jalr x0,12(x1); ret. g: ret
+abbrev pub pair_by_x1_bytes : List ℕ
+pair_by_x1_bytes = bytes_of (0x00000097 ∷ 0x00c08067 ∷ 0x00008067 ∷ 0x00008067 ∷ [])
+
+unfoldable pub pair_by_x1 : Image
+pair_by_x1 = image_with pair_by_x1_bytes (function (codes "f") 0x10000 12 ∷ function (codes "g") 0x1000c 4 ∷ [])

@@ -30,6 +30,10 @@ function size = record {
 abbrev pub nodes_of : (size address word : ℕ) → Option (List Node)
 nodes_of size address word = option_map (λ i. nodes_at (function size) address i (flow_of None address i)) (instr word)
 
+-- the nodes of the second of two words
+abbrev pub nodes_after : (size address previous word : ℕ) → Option (List Node)
+nodes_after size address previous word = option_map (λ i. nodes_at (function size) address i (flow_of (instr previous) address i)) (instr word)
+
 -- where its landing node continues
 abbrev pub landing_after : (size address word : ℕ) → Option Next
 landing_after size address word = option_and_then (λ i. landing_of (function size) address (flow_of None address i)) (instr word)

@@ -4,30 +4,50 @@
 ghost use Rattle.std.specs.Prelude.{◌≡◌, Some, [], ◌∷◌};
 ghost use Rattle.code_reach_spec.specs.declared.CodeKind.TheVariants.{Indirect, Leaves};
 ghost use Rattle.code_reach_spec.specs.Code.{Calls, Jumps, Stops, flow_at, IsReachable};
-ghost use Rattle.code_reach_spec.specs.Code.{AreReachable};
-ghost use Rattle.code_reach_spec.specs.Code.{CallsOn, Reaches, IsCyclic, IsStack};
-ghost use Rattle.code_reach_spec.specs.Faults.{direct_flow, IsInstructionFault};
+ghost use Rattle.code_reach_spec.specs.Code.{AreReachable, CallsOn, Reaches, IsCyclic, IsStack};
+ghost use Rattle.code_reach_spec.specs.Faults.{IsFunctionFault};
 ghost use Rattle.example_laws.specs.CodeSamples.{pair, tail_call, circle, frame};
+ghost use Rattle.example_laws.specs.CodeSamples.{entered_pair, stray, pair_by_x1};
 
 /// `auipc x5,0; jalr x1,12(x5); ret`: the two words together are a call of the function 12 bytes
-/// after the AUIPC, and what follows them is reached. Alone the JALR has no known target, and it is
-/// refused so far.
+/// after the AUIPC, and what follows them is reached. Where a function begins at the JALR the AUIPC
+/// is none of its words, and the JALR goes to no known address.
 pub fn a_pair_is_a_call()
     ensures flow { flow_at pair 0x10000 0x10004 ≡ Some (Calls 0x1000c) }
     ensures returns { IsReachable pair 0x10000 12 0x10008 }
     ensures calls { CallsOn pair 0x10000 12 0x1000c }
-    ensures alone { direct_flow pair 0x10004 ≡ Some Stops }
-    ensures refused { IsInstructionFault pair 0x10000 12 0x10004 Indirect }
+    ensures alone { flow_at pair 0x10004 0x10004 ≡ Some Stops }
+{}
+
+/// `auipc x1,0; jalr x0,12(x1)`: a jump with an offset from x1 is no return, and here it is a tail
+/// call by a pair.
+pub fn a_pair_is_a_tail_call()
+    ensures flow { flow_at pair_by_x1 0x10000 0x10004 ≡ Some (Jumps 0x1000c) }
+    ensures calls { CallsOn pair_by_x1 0x10000 12 0x1000c }
+    ensures alone { flow_at pair_by_x1 0x10004 0x10004 ≡ Some Stops }
+{}
+
+/// `beq x0,x0,+8; auipc x5,0; jalr x0,8(x5); ret`: the branch goes to the JALR, which so can be
+/// reached without its AUIPC. It is reported there.
+pub fn a_pair_is_entered_at_its_auipc()
+    ensures flow { flow_at entered_pair 0x10000 0x10008 ≡ Some (Jumps 0x1000c) }
+    ensures refused { IsFunctionFault entered_pair 0x10000 16 Indirect 0x10008 }
 {}
 
 /// `jal x0,+4` at the end of a function: it ends by a jump to the next function, which is called so
-/// and is no address of its own. It is refused so far.
+/// and is no address of its own.
 pub fn a_jump_out_is_a_tail_call()
     ensures flow { flow_at tail_call 0x10000 0x10000 ≡ Some (Jumps 0x10004) }
     ensures calls { CallsOn tail_call 0x10000 4 0x10004 }
     ensures reaches { Reaches tail_call 0x10000 0x10004 }
     ensures outside { IsReachable tail_call 0x10000 4 0x10004 → ⊥ }
-    ensures refused { IsInstructionFault tail_call 0x10000 4 0x10000 Leaves }
+{}
+
+/// `jal x0,+8` at the end of a function, to the second word of the next one: no entry, and no tail
+/// call.
+pub fn a_jump_into_a_function_leaves()
+    ensures refused { IsFunctionFault stray 0x10000 4 Leaves 0x10000 }
+    ensures calls_nothing { CallsOn stray 0x10000 4 0x10008 → ⊥ }
 {}
 
 /// Two functions that call each other: a cycle of calls is reached.

@@ -1,5 +1,5 @@
-//! Worked facts of the definition of code graphs: the nodes of six small functions, written out by
-//! hand.
+//! Worked facts of the definition of code graphs: the nodes of seven small functions, written out
+//! by hand.
 //!
 //! Each function's clauses are facts about the definitions of `decompile_spec`, and its body is
 //! empty. The nodes have the numbers of `specs/Numbered.antt`. Each word is from the RISC-V
@@ -12,7 +12,8 @@ ghost use Rattle.graph_core_spec.specs.declared.Next.TheVariants.{At, Ret, Err};
 ghost use Rattle.graph_core_spec.specs.Graph.{Basic, Cond, Call};
 ghost use Rattle.decompile_spec.specs.InstructionTerms.{number};
 ghost use Rattle.decompile_spec.specs.Blocks.{call_inputs, tail_inputs};
-ghost use Rattle.example_laws.specs.Numbered.{nodes_of, landing_after, x, e, m, sets, writes, asks};
+ghost use Rattle.example_laws.specs.Numbered.{nodes_of, nodes_after, landing_after, x, e, m, sets};
+ghost use Rattle.example_laws.specs.Numbered.{writes, asks};
 ghost use Rattle.example_laws.specs.Numbered.{avoiding, comes_home, x10_plus};
 
 /// Straight code: `add a0,a0,a1` and a return. One node sets x10, and the return is one test.
@@ -87,6 +88,19 @@ pub fn a_tail_call()
     ensures calls { nodes_of 8 0x10000 0x0000106f
         ≡ Some (asks (equal (x 1) (e 1)) (At 2) ∷ Call 0x11 tail_inputs [] 10 ∷ []) }
     ensures lands { landing_after 8 0x10000 0x0000106f ≡ Some Ret }
+{}
+
+/// A pair, `auipc x5,1; jalr x1,0(x5)`, and one whose second word is `jalr x0,4(x5)`: the AUIPC
+/// sets its register, and the JALR is the call or the tail call of a known address. Without the
+/// AUIPC the JALR is an error.
+pub fn a_pair()
+    ensures adds { nodes_of 8 0x10000 0x00001297
+        ≡ Some (sets 5 (number 0x11000) (At 11) ∷ []) }
+    ensures calls { nodes_after 8 0x10004 0x00001297 0x000280e7
+        ≡ Some (Call 0x11 (call_inputs 0x10008) [] 20 ∷ []) }
+    ensures ends { nodes_after 8 0x10004 0x00001297 0x00428067
+        ≡ Some (asks (equal (x 1) (e 1)) (At 12) ∷ Call 0x11 tail_inputs [] 20 ∷ []) }
+    ensures alone { nodes_of 8 0x10004 0x00428067 ≡ Some (Basic [] Err ∷ []) }
 {}
 
 /// What ends in an error: ECALL and EBREAK; a jump or a call to no multiple of 4; and a landing

@@ -9,9 +9,7 @@ use Rattle.elf_read_spec.specs.Image.{Image, function_named, size_at}
 use Rattle.elf_read_spec.specs.declared.SymbolValues.TheVariants.{One}
 use Rattle.elf_read_spec.proofs.Functions.{entry_has_size, entry_is_first, first_named}
 use Rattle.code_reach_spec.specs.Code.{Reaches, itself, further}
-use Rattle.code_reach_spec.specs.Faults.{ReachesNoFault, IsReachFault, of_function, overlap, ReachesDirectly}
-use Rattle.code_reach_spec.specs.Faults as faults
-use Rattle.code_reach_spec.proofs.Direct.{direct-reaches}
+use Rattle.code_reach_spec.specs.Faults.{ReachesNoFault, IsReachFault, of_function, overlap}
 use Rattle.call_graph.specs.Graph.{Grows}
 use Rattle.code_reach.specs.Found.{IsReach}
 use Rattle.pair_setup_spec.specs.Code.{HasSoundCode, IsSoundCode, of_reach}
@@ -33,21 +31,16 @@ module _ (image : Image) where
   reaches-on entry middle _ first itself = first
   reaches-on entry middle _ first (further between size target then size_is called) = further between size target (reaches-on entry middle between first then) size_is called
 
-  directly-on : (entry middle other : ℕ) → ReachesDirectly image entry middle → ReachesDirectly image middle other → ReachesDirectly image entry other
-  directly-on entry middle _ first faults.itself = first
-  directly-on entry middle _ first (faults.further between size target then size_is called) =
-      faults.further between size target (directly-on entry middle between first then) size_is called
-
-  fault-on : (entry middle : ℕ) → ReachesDirectly image entry middle → (kind : _) (address : ℕ) → IsReachFault image middle kind address → IsReachFault image entry kind address
+  fault-on : (entry middle : ℕ) → Reaches image entry middle → (kind : _) (address : ℕ) → IsReachFault image middle kind address → IsReachFault image entry kind address
   fault-on entry middle first kind address (of_function other size _ _ reached size_is wrong) =
-      of_function other size kind address (directly-on entry middle other first reached) size_is wrong
+      of_function other size kind address (reaches-on entry middle other first reached) size_is wrong
   fault-on entry middle first _ address (overlap lower lower_size _ upper_size low low_is up up_is below meet) =
-      overlap lower lower_size address upper_size (directly-on entry middle lower first low) low_is (directly-on entry middle address first up) up_is below meet
+      overlap lower lower_size address upper_size (reaches-on entry middle lower first low) low_is (reaches-on entry middle address first up) up_is below meet
 
   -- where nothing that is reached has a fault, nothing that is reached from there has one
   pub sound-on : (entry middle : ℕ) → ReachesNoFault image entry → Reaches image entry middle → ReachesNoFault image middle
   sound-on entry middle sound reached kind address wrong =
-      sound kind address (fault-on entry middle (direct-reaches image entry middle sound reached) kind address wrong)
+      sound kind address (fault-on entry middle reached kind address wrong)
 
   -- ---- one entry
 

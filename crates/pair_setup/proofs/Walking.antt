@@ -1,45 +1,23 @@
 -- The walk over the code of all listed functions.
 use Rattle.std.proofs.Common.{◌≡◌, ◌⊎◌, ◌∙◌, ℕ, ◌+◌, ◌<◌, ◌≤◌, List, [], length, get_or, refl, sym, ap, subst, inl, inr, arith}
-use Rattle.std.specs.Prelude.{Contains, IsSome, IsPermutation, Option, Some, None, option_and_then, unwrap_or}
+use Rattle.std.specs.Prelude.{Contains, IsSome, IsPermutation, Some, unwrap_or}
 use Rattle.std.proofs.lemmas.Bool.{cases_lt}
 use Rattle.std.proofs.lemmas.List.{get_or_append_left, get_or_default}
 use Rattle.std.proofs.lemmas.List.Elements.{Contains-append_left, Contains-append_cases, Contains-get_or}
 use Rattle.std.proofs.lemmas.List.Sorted.{Contains-permutation, IsPermutation-sym}
-use Rattle.rv_instr.specs.declared.Instr.{Instr}
-use Rattle.rv_instr.specs.Instr.{instr}
 use Rattle.elf_read_spec.specs.Image.{Image, size_at}
-use Rattle.code_reach_spec.specs.Code.{flow_of, CallsOn, Reaches, itself, further}
-use Rattle.code_reach_spec.specs.Faults.{ReachesDirectly, ReachesNoFault, of_function, overlap}
-use Rattle.code_reach_spec.specs.Faults as direct
-use Rattle.code_reach_spec.proofs.Direct.{calls-direct}
-use Rattle.code_reach.specs.Found.{IsCode}
-use Rattle.decompile_laws.proofs.Reached.{calls_function}
+use Rattle.code_reach_spec.specs.Code.{CallsOn, Reaches, itself, further}
+use Rattle.code_reach_spec.specs.Faults.{IsFunctionFault, ReachesNoFault, of_function, overlap}
 use Rattle.call_graph.specs.Graph.{Grows}
 use Rattle.pair_setup_spec.specs.Outcome.{IsReached}
-use Rattle.pair_setup.specs.Calling.{called, callee_of}
 use Rattle.pair_setup.specs.Codes.{AreSound}
 use Rattle.pair_setup.specs.Names.{IsOf}
 use Rattle.pair_setup.specs.Walks.{IsCalled, IsEntry, IsVisited, IsSoundAlone, IsReachedFrom, IsWalked, AreApart, AreSoundOf}
 use Rattle.pair_setup.proofs.Added.{none_contained}
-use Rattle.pair_setup.proofs.Totals.{called-at, calls-back, of-called, decoded, reached-word}
+use Rattle.pair_setup.proofs.Totals.{called-at, calls-back}
 
 same-size : (image : Image) (entry size other : ℕ) → size_at image entry ≡ Some size → size_at image entry ≡ Some other → other ≡ size
 same-size image entry size other e f = cc
-
--- ---- what a word calls is a function
-
-module _ (image : Image) (entry : ℕ) (words : List (ℕ × ℕ)) (is : IsCode image entry words) where
-  called-sized : (w : ℕ × ℕ) (target : ℕ) → Contains words w → callee_of w ≡ Some target → IsSome (size_at image target)
-  called-sized w target among e = at (instr w.1) refl
-    where
-      at : (o : Option Instr) → instr w.1 ≡ o → IsSome (size_at image target)
-      at None none = absurd (let nothing = subst (λ o. option_and_then (λ i. called (flow_of None w.0 i)) o ≡ Some target) none e in cc)
-      at (Some i) some =
-          calls_function image entry is.size w.0 is.sound (reached-word image entry words is w among) i target (decoded image entry words is w among ∙ some)
-          (of-called (flow_of None w.0 i) target (subst (λ o. option_and_then (λ i. called (flow_of None w.0 i)) o ≡ Some target) some e))
-
-  pub calls-of-word : (w : ℕ × ℕ) (target : ℕ) → Contains words w → callee_of w ≡ Some target → CallsOn image entry is.size target
-  calls-of-word w target among e = calls-back image entry words is w target among e (called-sized w target among e)
 
 -- ---- the walk
 
@@ -59,14 +37,14 @@ module _ (image : Image) (old : List ℕ) where
       → IsVisited image entry entries new → IsWalking image old (next + 1) new
   walking-next next entries new entry so_far inside here v = record { only = only; visited = visited }
     where
-      g : Grows (IsOf IsCalled v.words) entries new
+      g : Grows (IsOf IsCalled v.steps) entries new
       g = v.grows
 
       kept : (t : ℕ) → Contains entries t → Contains new t
       kept t among = subst (λ l. Contains l t) (sym v.grows.grown) (Contains-append_left entries v.grows.more t among)
 
-      from : (t : ℕ) → CallsOn image entry v.code.size t → IsReachedFrom image old entry → IsReachedFrom image old t
-      from t on (first, among, reached) = (first, among, further entry v.code.size t reached v.code.size_is on)
+      from : (t : ℕ) → CallsOn image entry v.are.code.size t → IsReachedFrom image old entry → IsReachedFrom image old t
+      from t on (first, among, reached) = (first, among, further entry v.are.code.size t reached v.are.code.size_is on)
 
       there : Contains entries entry
       there = subst (Contains entries) (sym here) (Contains-get_or entries next 0 inside)
@@ -74,7 +52,7 @@ module _ (image : Image) (old : List ℕ) where
       only : (t : ℕ) → Contains new t → IsReachedFrom image old t
       only t among = elim (Contains-append_cases entries v.grows.more t (subst (λ l. Contains l t) v.grows.grown among)) [
         | inl before ↦ so_far.only t before
-        | inr added ↦ (let call = v.grows.only t added in from t (calls-of-word image entry v.words v.code call.0 t call.1 call.2) (so_far.only entry there))
+        | inr added ↦ (let call = v.grows.only t added in from t (calls-back image entry v.steps v.are call.0 t call.1 call.2) (so_far.only entry there))
       ]
 
       split : (k : ℕ) → k < next + 1 → (k < next) ⊎ (k ≡ next)
@@ -85,10 +63,10 @@ module _ (image : Image) (old : List ℕ) where
 
       own : IsSoundAlone image new entry
       own = record {
-        size = v.code.size;
-        size_is = v.code.size_is;
-        sound = v.code.sound;
-        calls = λ target on. (let at = called-at image entry v.words v.code target on in v.grows.all target (at.word, at.among, at.calls));
+        size = v.are.code.size;
+        size_is = v.are.code.size_is;
+        sound = v.are.code.sound;
+        calls = λ target on. (let at = called-at image entry v.steps v.are target on in v.grows.all target (at.step, at.among, at.calls));
       }
 
       visited : (k : ℕ) → k < next + 1 → IsSoundAlone image new (get_or new k 0)
@@ -115,13 +93,6 @@ module _ (image : Image) (entries : List ℕ) (all : (entry : ℕ) → Contains 
       let s = all middle (closed entry middle among reached) in
       s.calls other (subst (λ n. CallsOn image middle n other) (same-size image middle s.size size s.size_is size_is) on)
 
-  directly-closed : (entry other : ℕ) → Contains entries entry → ReachesDirectly image entry other → Contains entries other
-  directly-closed entry _ among direct.itself = among
-  directly-closed entry other among (direct.further middle size _ reached size_is on) =
-      let s = all middle (directly-closed entry middle among reached) in
-      s.calls other
-      (calls-direct image middle s.size other s.sound (subst (λ n. direct.CallsDirectly image middle n other) (same-size image middle s.size size s.size_is size_is) on))
-
   end-before : (lower size upper : ℕ) → Contains entries lower → size_at image lower ≡ Some size → Contains entries upper → lower < upper → lower + size ≤ upper
   end-before lower size upper (j, inside, here) is (k, within, there) before = at (cases_lt j k) (cases_lt k j)
     where
@@ -142,10 +113,10 @@ module _ (image : Image) (entries : List ℕ) (all : (entry : ℕ) → Contains 
 
   none-wrong : (entry : ℕ) → Contains entries entry → ReachesNoFault image entry
   none-wrong entry among kind address (of_function other size _ _ reached size_is wrong) =
-      let s = all other (directly-closed entry other among reached) in
-      s.sound kind address (subst (λ n. direct.IsFunctionFault image other n kind address) (same-size image other s.size size s.size_is size_is) wrong)
+      let s = all other (closed entry other among reached) in
+      s.sound kind address (subst (λ n. IsFunctionFault image other n kind address) (same-size image other s.size size s.size_is size_is) wrong)
   none-wrong entry among _ address (overlap lower lower_size _ upper_size low low_is up up_is before meet) =
-      let past = end-before lower lower_size address (directly-closed entry lower among low) low_is (directly-closed entry address among up) before in
+      let past = end-before lower lower_size address (closed entry lower among low) low_is (closed entry address among up) before in
       omega (arith, past, meet.in_one.below, meet.in_other.from)
 
   pub are-sound : AreSound image entries

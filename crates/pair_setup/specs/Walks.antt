@@ -4,16 +4,16 @@ use Rattle.elf_read_spec.specs.Image.{Image, function_named, size_at}
 use Rattle.elf_read_spec.specs.declared.SymbolValues.TheVariants.{One}
 use Rattle.code_reach_spec.specs.Code.{CallsOn, Reaches}
 use Rattle.code_reach_spec.specs.Faults.{HasNoFault}
-use Rattle.code_reach.specs.Found.{IsCode}
 use Rattle.call_graph.specs.Graph.{Grows}
 use Rattle.pair_setup_spec.specs.Outcome.{IsReached}
-use Rattle.pair_setup.specs.Calling.{callee_of}
+use Rattle.pair_setup.specs.Calling.{AreSteps}
 use Rattle.pair_setup.specs.Codes.{AreSound}
 use Rattle.pair_setup.specs.Names.{IsOf}
+use Rattle.pair_setup.specs.declared.calling.Step.{Step}
 
--- a word calls the function at an entry
-abbrev pub IsCalled : ℕ × ℕ → (target : ℕ) → Type 0
-IsCalled word target = callee_of word ≡ Some target
+-- an instruction calls the function at an entry
+abbrev pub IsCalled : Step → (target : ℕ) → Type 0
+IsCalled step target = step.callee ≡ Some target
 
 -- the function of a name is at an entry
 abbrev pub IsEntry : Image → (name : List ℕ) → (entry : ℕ) → Type 0
@@ -21,9 +21,9 @@ IsEntry image name entry = function_named image name ≡ One entry
 
 -- the function at an entry has no fault, and what it calls is added
 pub record IsVisited (image : Image) (entry : ℕ) (old new : List ℕ) : Type 0 where
-  pub words : List (ℕ × ℕ)
-  pub code : IsCode image entry words
-  pub grows : Grows (IsOf IsCalled words) old new
+  pub steps : List Step
+  pub are : AreSteps image entry steps
+  pub grows : Grows (IsOf IsCalled steps) old new
 
 -- the function at an entry has no fault, and what it calls is among the entries
 pub record IsSoundAlone (image : Image) (entries : List ℕ) (entry : ℕ) : Type 0 where

@@ -1,86 +1,101 @@
-//! The words of functions: which functions they call, and by how much they lower the stack pointer.
+//! The instructions of functions: which functions they call, and by how much they lower the stack
+//! pointer.
 
-ghost use Rattle.std.specs.Prelude.{◌≡◌, None, IfOk, IfSome, IsSome};
-ghost use Rattle.rv_machine_spec.specs.Arithmetic.{word as word_of};
-ghost use Rattle.rv_machine_spec.specs.Machine.{past};
+ghost use Rattle.std.specs.Prelude.{◌≡◌, ◌+◌, ◌≤◌, ◌^◌, map, All, Some, IfOk, IfSome};
 ghost use Rattle.elf_read_spec.specs.Image.{size_at};
-ghost use Rattle.code_reach_spec.specs.Code.{flow_of};
 ghost use Rattle.code_reach.specs.Found.{IsCode};
 ghost use Rattle.pair_setup.specs.Calling as spec;
 
 use attempt::attempt;
-use code_reach::{CodeError, code, lowering};
+use code_reach::{CodeError, callee_at, code, lowering};
 use elf_read::Image;
 use rv_decode::decode;
-use rv_instr::Instr;
 use std::alloc::{AllocError, Global};
 
-/// The address `offset` bytes from another; addresses wrap.
-fn moved(address: u32, offset: i32) -> u32
-    ensures { result ≡ past address (word_of offset) }
-{
-    address.wrapping_add(offset.cast_unsigned())
+/// What an instruction of a function does to its callers.
+#[derive(Clone, Copy, Drop)]
+pub(crate) struct Step {
+    /// By how much it lowers the stack pointer.
+    pub opening: u64,
+    /// Where it calls, or ends the function by a jump out of its range; each an entry in a function
+    /// without faults.
+    pub callee: Option<u32>,
 }
 
-/// The entry that an instruction at an address calls, if it calls one.
-fn called_by(address: u32, instruction: &Instr) -> Option<u32>
-    ensures { result ≡ spec.called (flow_of None address instruction.now) }
+/// By how much a word lowers the stack pointer.
+fn opening(bits: u32) -> u64
+    ensures { result ≡ spec.opening_of_word bits }
 {
-    match *instruction {
-        Instr::Jal { rd, offset } if rd.number() == 1 => Some(moved(address, offset)),
-        _ => None,
-    }
-}
-
-/// The entry that the word at an address calls, if it calls one.
-pub(crate) fn callee(word: (u32, u32)) -> Option<u32>
-    ensures { result ≡ spec.callee_of word }
-{
-    let (address, bits) = word;
-    match decode(bits) {
-        Some(instruction) => called_by(address, &instruction),
-        None => None,
-    }
-}
-
-/// By how much the word at an address lowers the stack pointer.
-pub(crate) fn opening(word: (u32, u32)) -> u64
-    ensures { result ≡ spec.opening_at word }
-{
-    let (_, bits) = word;
     match decode(bits) {
         Some(instruction) => lowering(&instruction),
         None => 0,
     }
 }
 
-/// The words of the function at an entry; none where it has a fault.
-fn sound_words(
+/// What the word at an address of a function does.
+fn word_step(image: &Image<'_>, entry: u32, size: u32, word: (u32, u32)) -> Step
+    requires { spec.IsWhole entry word }
+    ensures { result ≡ spec.step_of image.now entry size word }
+{
+    let (address, bits) = word;
+    Step {
+        opening: opening(bits),
+        callee: callee_at(image, entry, size, address),
+    }
+}
+
+/// What some words of a function do.
+fn steps(
     alloc: Global,
     image: &Image<'_>,
     entry: u32,
-) -> Result<Option<Vec<(u32, u32)>>, AllocError>
-    requires { IsSome (size_at image.now entry) }
-    ensures { IfOk result (λ found. IfSome found (λ words. IsCode image.now entry words.items)) }
+    size: u32,
+    words: &[(u32, u32)],
+) -> Result<Vec<Step>, AllocError>
+    requires { All (spec.IsWhole entry) words.now }
+    ensures { IfOk result (λ steps. steps.items ≡ map
+        (spec.step_of image.now entry size) words.now) }
+{
+    let mut steps = Vec::new(alloc);
+    for word in words {
+        attempt!(steps.push(word_step(image, entry, size, *word)), AllocError);
+    }
+    Ok(steps)
+}
+
+/// The instructions of the function of an entry and a size; none where it has a fault.
+fn sound_steps(
+    alloc: Global,
+    image: &Image<'_>,
+    entry: u32,
+    size: u32,
+) -> Result<Option<Vec<Step>>, AllocError>
+    requires { size_at image.now entry ≡ Some size }
+    ensures { IfOk result (λ found. IfSome found (λ steps. spec.AreSteps image.now entry
+        steps.items)) }
 {
     match code(alloc, image, entry) {
-        Ok(words) => Ok(Some(words)),
+        Ok(words) => {
+            let found = attempt!(steps(alloc, image, entry, size, words.as_slice()));
+            Ok(Some(found))
+        }
         Err(CodeError::Fault(_)) => Ok(None),
         Err(CodeError::NoMemory) => Err(AllocError),
     }
 }
 
-/// The words of the function at an address; none where no function begins there, or it has a fault.
-pub(crate) fn words_at(
+/// The instructions of the function at an address; none where no function begins there, or it has a
+/// fault.
+pub(crate) fn steps_at(
     alloc: Global,
     image: &Image<'_>,
     entry: u32,
-) -> Result<Option<Vec<(u32, u32)>>, AllocError>
-    ensures { IfOk result (λ found. IfSome found (λ words. IsCode image.now entry words.items)) }
+) -> Result<Option<Vec<Step>>, AllocError>
+    ensures { IfOk result (λ found. IfSome found (λ steps. spec.AreSteps image.now entry
+        steps.items)) }
 {
-    if image.size_at(entry).is_some() {
-        sound_words(alloc, image, entry)
-    } else {
-        Ok(None)
+    match image.size_at(entry) {
+        Some(size) => sound_steps(alloc, image, entry, size),
+        None => Ok(None),
     }
 }

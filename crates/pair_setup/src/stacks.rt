@@ -7,7 +7,7 @@ ghost use Rattle.indexmap.specs.IndexMap.{get};
 ghost use Rattle.code_reach_spec.specs.Code.{IsStack};
 ghost use Rattle.pair_setup.specs.Stacks.{AreStacks, IsMore, IsRaised, IsTally, IsTotal};
 
-use crate::calling::{callee, opening, words_at};
+use crate::calling::{Step, steps_at};
 use attempt::attempt;
 use elf_read::Image;
 use indexmap::{IndexMap, IndexSet};
@@ -22,7 +22,7 @@ enum Task {
     Leave(u32),
 }
 
-/// What some words of a function take of the stack.
+/// What some instructions of a function take of the stack.
 #[derive(Clone, Copy)]
 pub(crate) struct Tally {
     /// By how much they lower the stack pointer.
@@ -54,33 +54,34 @@ fn raised(known: &IndexMap<u32, u64>, deepest: u64, called: Option<u32>) -> Opti
     }
 }
 
-/// What some words take of the stack and one more; none where the stack of what it calls isn't
-/// known.
-fn with_word(known: &IndexMap<u32, u64>, tally: Tally, word: (u32, u32)) -> Option<Tally>
-    ensures { IfSome result (IsMore (get nat_eq known.now) tally word) }
+/// What some instructions take of the stack and one more; none where the stack of what it calls
+/// isn't known.
+fn with_step(known: &IndexMap<u32, u64>, tally: Tally, step: Step) -> Option<Tally>
+    ensures { IfSome result (IsMore (get nat_eq known.now) tally step) }
 {
-    let own = sum(tally.own, opening(word))?;
-    let deepest = raised(known, tally.deepest, callee(word))?;
+    let own = sum(tally.own, step.opening)?;
+    let deepest = raised(known, tally.deepest, step.callee)?;
     Some(Tally { own, deepest })
 }
 
-/// What some words take of the stack; none where the stack of what one calls isn't known.
-fn tallied(known: &IndexMap<u32, u64>, words: &[(u32, u32)]) -> Option<Tally>
-    ensures { IfSome result (IsTally (get nat_eq known.now) words.now) }
+/// What some instructions take of the stack; none where the stack of what one calls isn't known.
+fn tallied(known: &IndexMap<u32, u64>, steps: &[Step]) -> Option<Tally>
+    ensures { IfSome result (IsTally (get nat_eq known.now) steps.now) }
 {
     let mut tally = Tally { own: 0, deepest: 0 };
-    for word in words {
-        let more = with_word(known, tally, *word)?;
+    for step in steps {
+        let more = with_step(known, tally, *step)?;
         tally = more;
     }
     Some(tally)
 }
 
-/// The stack of a function with these words; none where the stack of what one calls isn't known.
-fn total(known: &IndexMap<u32, u64>, words: &[(u32, u32)]) -> Option<u64>
-    ensures { IfSome result (IsTotal (get nat_eq known.now) words.now) }
+/// The stack of a function with these instructions; none where the stack of what one calls isn't
+/// known.
+fn total(known: &IndexMap<u32, u64>, steps: &[Step]) -> Option<u64>
+    ensures { IfSome result (IsTotal (get nat_eq known.now) steps.now) }
 {
-    let tally = tallied(known, words)?;
+    let tally = tallied(known, steps)?;
     sum(tally.own, tally.deepest)
 }
 
@@ -94,8 +95,8 @@ fn stack_at(
     requires { AreStacks image.now (get nat_eq known.now) }
     ensures { IfOk result (λ found. IfSome found (IsStack image.now entry)) }
 {
-    match attempt!(words_at(alloc, image, entry)) {
-        Some(words) => Ok(total(known, words.as_slice())),
+    match attempt!(steps_at(alloc, image, entry)) {
+        Some(steps) => Ok(total(known, steps.as_slice())),
         None => Ok(None),
     }
 }
@@ -119,10 +120,10 @@ fn leave(
     }
 }
 
-/// Adds to the tasks that those functions be entered that some words call.
-fn add_tasks(tasks: &mut Vec<Task>, words: &[(u32, u32)]) -> Result<(), AllocError> {
-    for word in words {
-        if let Some(target) = callee(*word) {
+/// Adds to the tasks that those functions be entered that some instructions call.
+fn add_tasks(tasks: &mut Vec<Task>, steps: &[Step]) -> Result<(), AllocError> {
+    for step in steps {
+        if let Some(target) = step.callee {
             attempt!(tasks.push(Task::Enter(target)), AllocError);
         }
     }
@@ -143,8 +144,8 @@ fn enter(
     }
     attempt!(entered.insert(entry), AllocError);
     attempt!(tasks.push(Task::Leave(entry)), AllocError);
-    match attempt!(words_at(alloc, image, entry)) {
-        Some(words) => add_tasks(tasks, words.as_slice()),
+    match attempt!(steps_at(alloc, image, entry)) {
+        Some(steps) => add_tasks(tasks, steps.as_slice()),
         None => Ok(()),
     }
 }

@@ -4,34 +4,33 @@ ghost use Rattle.std.specs.Prelude.{◌≡◌, ◌+◌, [], unwrap_or, IfOk, IsT
 ghost use Rattle.elf_read_spec.specs.Image.{size_at};
 ghost use Rattle.call_graph.specs.Graph.{Grows};
 ghost use Rattle.pair_setup_calls.specs.Names.{texts_of};
-ghost use Rattle.pair_setup.specs.Calling.{callee_of};
 ghost use Rattle.pair_setup.specs.Names.{IsOf};
 ghost use Rattle.pair_setup.specs.Walks.{AreApart, AreSoundOf, IsCalled, IsEntry, IsVisited};
 ghost use Rattle.pair_setup.specs.Walks.{IsWalked};
 
-use crate::calling::{callee, words_at};
+use crate::calling::{Step, steps_at};
 use crate::code::add;
 use attempt::attempt;
 use elf_read::{Image, SymbolValues};
 use indexmap::IndexSet;
 use std::alloc::{AllocError, Global};
 
-/// Adds the entry that the word at an address calls.
-fn add_callee(entries: &mut IndexSet<u32>, word: (u32, u32)) -> Result<(), AllocError>
-    ensures { OnOk result (Grows (IsCalled word) entries.old.keys entries.new.keys) }
+/// Adds the entry that an instruction calls.
+fn add_callee(entries: &mut IndexSet<u32>, step: Step) -> Result<(), AllocError>
+    ensures { OnOk result (Grows (IsCalled step) entries.old.keys entries.new.keys) }
 {
-    match callee(word) {
+    match step.callee {
         Some(target) => add(entries, target),
         None => Ok(()),
     }
 }
 
-/// Adds the entries that some words call.
-fn add_callees(entries: &mut IndexSet<u32>, words: &[(u32, u32)]) -> Result<(), AllocError>
-    ensures { OnOk result (Grows (IsOf IsCalled words.now) entries.old.keys entries.new.keys) }
+/// Adds the entries that some instructions call.
+fn add_callees(entries: &mut IndexSet<u32>, steps: &[Step]) -> Result<(), AllocError>
+    ensures { OnOk result (Grows (IsOf IsCalled steps.now) entries.old.keys entries.new.keys) }
 {
-    for word in words {
-        attempt!(add_callee(entries, *word));
+    for step in steps {
+        attempt!(add_callee(entries, *step));
     }
     Ok(())
 }
@@ -46,9 +45,9 @@ fn visit(
     ensures { IfOk result (λ sound. IsTrue sound → IsVisited image.now entry entries.old.keys
         entries.new.keys) }
 {
-    match attempt!(words_at(alloc, image, entry)) {
-        Some(words) => {
-            attempt!(add_callees(entries, words.as_slice()));
+    match attempt!(steps_at(alloc, image, entry)) {
+        Some(steps) => {
+            attempt!(add_callees(entries, steps.as_slice()));
             Ok(true)
         }
         None => Ok(false),

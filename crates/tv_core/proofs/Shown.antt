@@ -3,7 +3,8 @@ use Rattle.std.proofs.Common.{◌≡◌, ℕ, List, length, Option, Some, None, 
 use Rattle.std.specs.Prelude.{IsSome, IfErr, Result, option_map}
 use Rattle.elf_read_spec.specs.Image.{Image, function_named}
 use Rattle.elf_read_spec.specs.declared.SymbolValues.TheVariants.{One}
-use Rattle.code_reach_spec.specs.Faults.{ReachesNoFault, of_function, itself}
+use Rattle.code_reach_spec.specs.Code.{itself}
+use Rattle.code_reach_spec.specs.Faults.{ReachesNoFault, of_function}
 use Rattle.code_reach.specs.declared.faults.CodeError.{CodeError}
 use Rattle.code_reach.specs.declared.faults.CodeError.TheVariants.{Fault}
 use Rattle.code_reach.specs.declared.faults.CodeFault.{CodeFault}

@@ -3,7 +3,7 @@ use Rattle.std.proofs.Common.{◌≡◌, ℕ, List, refl, sym, ◌∙◌, subst}
 use Rattle.elf_read_spec.specs.Image.{Image}
 use Rattle.code_reach_spec.specs.declared.CodeKind.{CodeKind}
 use Rattle.code_reach_spec.specs.Faults.{IsReachFault, IsFirst}
-use Rattle.code_reach_spec.proofs.Direct.{same_first}
+use Rattle.code_reach_spec.proofs.First.{same_first}
 use Rattle.pair_setup_spec.specs.Code.{HasCodeFault, ambiguous, of_reach, IsSoundCode, IsFirstCodeFault}
 use Rattle.tv_core_spec.proofs.Firsts.{first_same}
 

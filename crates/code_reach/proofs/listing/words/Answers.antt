@@ -4,15 +4,15 @@ use Rattle.code_reach.proofs.listing.words.Goals as goal
 
 pub loop-address-init : goal.loop-address-init
 loop-address-init c =
-    subst (IsListed c.args.image.now c.args.entry c.args.size c.args.addresses.now 0) (sym c.new-words.ensures.items)
-    (listed-none c.args.image.now c.args.entry c.args.size c.args.addresses.now)
+    subst (IsListed c.args.image.now c.args.entry c.args.size c.args.targets.now.keys c.args.addresses.now 0) (sym c.new-words.ensures.items)
+    (listed-none c.args.image.now c.args.entry c.args.size c.args.targets.now.keys c.args.addresses.now)
 
 pub loop-address-preserved : goal.loop-address-preserved
 loop-address-preserved c =
-    subst (IsListed c.args.image.now c.args.entry c.args.size c.args.addresses.now (c.loop-address.address-index + 1)) (sym c.in_ok-push.ensures.items)
-    (listed-more c.args.image.now c.args.entry c.args.size c.args.addresses.now c.loop-address.address-index (get_or c.args.addresses.now c.loop-address.address-index 0)
+    subst (IsListed c.args.image.now c.args.entry c.args.size c.args.targets.now.keys c.args.addresses.now (c.loop-address.address-index + 1)) (sym c.in_ok-push.ensures.items)
+    (listed-more c.args.image.now c.args.entry c.args.size c.args.targets.now.keys c.args.addresses.now c.loop-address.address-index (get_or c.args.addresses.now c.loop-address.address-index 0)
     c.in_ok-found.found c.loop-address.words.items c.loop-address.invariant (omega arith) refl c.in_ok-found.ensures.word c.in_ok-found.ensures.sound)
 
 pub returns-clause-listed : goal.returns-clause-listed
 returns-clause-listed c =
-    listed-all c.args.image.now c.args.entry c.args.size c.args.addresses.now c.loop-address.address-index c.loop-address.words.items c.loop-address.invariant (omega arith)
+    listed-all c.args.image.now c.args.entry c.args.size c.args.targets.now.keys c.args.addresses.now c.loop-address.address-index c.loop-address.words.items c.loop-address.invariant (omega arith)

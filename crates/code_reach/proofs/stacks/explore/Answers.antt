@@ -28,7 +28,7 @@ total-requires-clause-short c = λ total is.
 
 pub loop-task-preserved-in_ok-insert-in-Leave : goal.loop-task-preserved-in_ok-insert-in-Leave
 loop-task-preserved-in_ok-insert-in-Leave c =
-    search-leave c.args.image.now c.args.entry c.requires.sound (get nat_eq c.loop-task.known) (get nat_eq c.insert.new.self) c.loop-task.entered.keys c.in-Leave.other
+    search-leave c.args.image.now c.args.entry (get nat_eq c.loop-task.known) (get nat_eq c.insert.new.self) c.loop-task.entered.keys c.in-Leave.other
     c.in_ok-total-in-Leave.total (reverse c.pop.new.self.items)
     (subst (IsSearch c.args.image.now c.args.entry (get nat_eq c.loop-task.known) c.loop-task.entered.keys)
     (popped c.loop-task.tasks.items c.pop.new.self.items (Leave c.in-Leave.other) (c.in-Some.ensures.items ∙ ap (λ t. c.pop.new.self.items ++ t ∷ []) c.in-Leave.is))
@@ -45,7 +45,7 @@ loop-task-preserved-then-contains_key c =
 
 pub returns-then-contains : goal.returns-then-contains
 returns-then-contains c =
-    search-cycle c.args.image.now c.args.entry c.requires.sound (get nat_eq c.loop-task.known) c.loop-task.entered.keys c.in-Enter.other (reverse c.pop.new.self.items)
+    search-cycle c.args.image.now c.args.entry (get nat_eq c.loop-task.known) c.loop-task.entered.keys c.in-Enter.other (reverse c.pop.new.self.items)
     (subst (IsSearch c.args.image.now c.args.entry (get nat_eq c.loop-task.known) c.loop-task.entered.keys)
     (popped c.loop-task.tasks.items c.pop.new.self.items (Enter c.in-Enter.other) (c.in-Some.ensures.items ∙ ap (λ t. c.pop.new.self.items ++ t ∷ []) c.in-Enter.is))
     c.loop-task.invariant)

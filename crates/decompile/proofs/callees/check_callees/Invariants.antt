@@ -5,4 +5,4 @@ use Rattle.decompile.proofs.callees.check_callees.Given as goal
 
 -- those so far have listed callees
 abbrev pub invariant-loop-item : goal.invariant-loop-item
-invariant-loop-item l = (k : ℕ) (d : Item) → k < l.item-index → IsListed l.entries (get_or l.items k d)
+invariant-loop-item l = (k : ℕ) (d : Item) → k < l.item-index → IsListed l.entry l.size l.entries (get_or l.items k d)

@@ -4,17 +4,16 @@ use Rattle.std.specs.List.Sorted.{IsStrictlyIncreasing}
 use Rattle.elf_read_spec.specs.Image.{size_at}
 use Rattle.elf_read.specs.declared.parts.Extent.{Extent}
 use Rattle.graph_core.specs.Graphs.{graph_of}
-use Rattle.decompile_spec.specs.Blocks.{Setting}
 use Rattle.decompile_laws.specs.Layout.{laid}
 use Rattle.decompile.specs.declared.items.Item.{Item}
 use Rattle.decompile.specs.Items.{item_of}
-use Rattle.decompile.specs.Answer.{setting}
+use Rattle.decompile.specs.Answer.{setting, counting}
 use Rattle.decompile.specs.Counts.{numbered, counted, IsTooMany}
 use Rattle.memory_spec.specs.Runs.{Run}
 use Rattle.std.proofs.lemmas.List.{length-map}
-use Rattle.decompile.specs.Settings.{blanked, run_of, Stays}
+use Rattle.decompile.specs.Settings.{blanked, run_of}
 use Rattle.decompile.proofs.Answered.{answered, answered_size, too_many}
-use Rattle.decompile.proofs.Whole.{rising_items, all_stay, sized, in_space}
+use Rattle.decompile.proofs.Whole.{rising_items, sized, in_space}
 use Rattle.decompile.proofs.graphs.decompile_within.Goals as goal
 
 pub first_nodes-requires : goal.first_nodes-requires
@@ -32,14 +31,6 @@ invariant_of-function c =
       rising = c.requires.rising;
     }
 
-pub graph-requires : goal.graph-requires
-graph-requires c =
-    let size_is : size_at c.args.image.now c.args.entry ≡ Some c.unwrap-size.result = search rules in
-    let f : Setting = setting c.args.entry c.unwrap-size.result (map run_of c.as_slice-3.result.now) c.args.entries.now c.in_ok-firsts.firsts.entries in
-    let are = sized c.args.image.now c.args.entry c.unwrap-size.result c.in_ok-items.items.items c.in_ok-items.ensures.found.0 size_is in
-    subst (λ (items : List Item). All (λ (item : Item). Stays f (item_of item).flow) items) (sym c.as_slice-4.ensures.value)
-    (all_stay c.args.image.now f c.in_ok-items.items.items are.0 are.1)
-
 pub returns-in_err-items-clause-error : goal.returns-in_err-items-clause-error
 returns-in_err-items-clause-error c =
     let fact = c.in_err-items.ensures.fault c.args.maximum in
@@ -48,10 +39,10 @@ returns-in_err-items-clause-error c =
 pub returns-in_err-count_nodes-clause-error : goal.returns-in_err-count_nodes-clause-error
 returns-in_err-count_nodes-clause-error c =
     let size_is : size_at c.args.image.now c.args.entry ≡ Some c.unwrap-size.result = search rules in
-    let count : c.len.result ≡ length c.in_ok-runs.runs.items = omega arith in
-    let many : IsTooMany (length c.in_ok-runs.runs.items) c.args.maximum (map item_of c.in_ok-items.items.items) c.in_err-count_nodes.field-0.0 =
-    subst (λ (is : List Item). IsTooMany (length c.in_ok-runs.runs.items) c.args.maximum (map item_of is) c.in_err-count_nodes.field-0.0) c.as_slice.ensures.value
-    (subst (λ (n : ℕ). IsTooMany n c.args.maximum (map item_of c.as_slice.result.now) c.in_err-count_nodes.field-0.0) count c.in_err-count_nodes.ensures.large) in
+    let count : c.len-extents.result ≡ length c.in_ok-runs.runs.items = omega arith in
+    let many : IsTooMany (counting c.args.entry c.unwrap-size.result (length c.in_ok-runs.runs.items)) c.args.maximum (map item_of c.in_ok-items.items.items) c.in_err-count_nodes.field-0.0 =
+    subst (λ (is : List Item). IsTooMany (counting c.args.entry c.unwrap-size.result (length c.in_ok-runs.runs.items)) c.args.maximum (map item_of is) c.in_err-count_nodes.field-0.0) c.as_slice.ensures.value
+    (subst (λ (n : ℕ). IsTooMany (counting c.args.entry c.unwrap-size.result n) c.args.maximum (map item_of c.as_slice.result.now) c.in_err-count_nodes.field-0.0) count c.in_err-count_nodes.ensures.large) in
     let fact = too_many c.args.image.now c.args.entry c.unwrap-size.result c.args.entries.now c.in_ok-items.items.items c.in_ok-runs.runs.items size_is c.in_ok-items.ensures.found
     c.in_ok-runs.ensures c.laid_are_code_graphs.ensures c.code_graphs_are_valid.ensures c.args.maximum c.in_err-count_nodes.field-0.0 many in
     first_of (search (rules, fact), grind (arith, common_steps, fact))
@@ -59,10 +50,10 @@ returns-in_err-count_nodes-clause-error c =
 pub returns-clause-graph : goal.returns-clause-graph
 returns-clause-graph c =
     let size_is : size_at c.args.image.now c.args.entry ≡ Some c.unwrap-size.result = search rules in
-    let count : c.len-2.result ≡ length c.in_ok-runs.runs.items = omega arith in
-    let numbers : c.in_ok-firsts.firsts.entries ≡ numbered (length c.in_ok-runs.runs.items) 1 (map item_of c.in_ok-items.items.items) =
-    c.in_ok-firsts.ensures ∙ ap (λ (n : ℕ). numbered n 1 (map item_of c.as_slice-2.result.now)) count
-    ∙ ap (λ (items : List Item). numbered (length c.in_ok-runs.runs.items) 1 (map item_of items)) c.as_slice-2.ensures.value in
+    let count : c.len-extents.result ≡ length c.in_ok-runs.runs.items = omega arith in
+    let numbers : c.in_ok-firsts.firsts.entries ≡ numbered (counting c.args.entry c.unwrap-size.result (length c.in_ok-runs.runs.items)) 1 (map item_of c.in_ok-items.items.items) =
+    c.in_ok-firsts.ensures ∙ ap (λ (n : ℕ). numbered (counting c.args.entry c.unwrap-size.result n) 1 (map item_of c.as_slice-2.result.now)) count
+    ∙ ap (λ (items : List Item). numbered (counting c.args.entry c.unwrap-size.result (length c.in_ok-runs.runs.items)) 1 (map item_of items)) c.as_slice-2.ensures.value in
     let made : graph_of c.in_ok-graph.graph
     ≡ laid (setting c.args.entry c.unwrap-size.result (map run_of c.in_ok-runs.runs.items) c.args.entries.now c.in_ok-firsts.firsts.entries) (map item_of c.in_ok-items.items.items) =
     c.in_ok-graph.ensures
@@ -74,19 +65,19 @@ returns-clause-graph c =
 pub returns-clause-within : goal.returns-clause-within
 returns-clause-within c =
     let size_is : size_at c.args.image.now c.args.entry ≡ Some c.unwrap-size.result = search rules in
-    let count : c.len.result ≡ length c.in_ok-runs.runs.items = omega arith in
-    let count_too : c.len-2.result ≡ length c.in_ok-runs.runs.items = omega arith in
-    let numbers : c.in_ok-firsts.firsts.entries ≡ numbered (length c.in_ok-runs.runs.items) 1 (map item_of c.in_ok-items.items.items) =
-    c.in_ok-firsts.ensures ∙ ap (λ (n : ℕ). numbered n 1 (map item_of c.as_slice-2.result.now)) count_too
-    ∙ ap (λ (items : List Item). numbered (length c.in_ok-runs.runs.items) 1 (map item_of items)) c.as_slice-2.ensures.value in
+    let count : c.len-extents.result ≡ length c.in_ok-runs.runs.items = omega arith in
+    let count_too : c.len-extents.result ≡ length c.in_ok-runs.runs.items = omega arith in
+    let numbers : c.in_ok-firsts.firsts.entries ≡ numbered (counting c.args.entry c.unwrap-size.result (length c.in_ok-runs.runs.items)) 1 (map item_of c.in_ok-items.items.items) =
+    c.in_ok-firsts.ensures ∙ ap (λ (n : ℕ). numbered (counting c.args.entry c.unwrap-size.result n) 1 (map item_of c.as_slice-2.result.now)) count_too
+    ∙ ap (λ (items : List Item). numbered (counting c.args.entry c.unwrap-size.result (length c.in_ok-runs.runs.items)) 1 (map item_of items)) c.as_slice-2.ensures.value in
     let made : graph_of c.in_ok-graph.graph
     ≡ laid (setting c.args.entry c.unwrap-size.result (map run_of c.in_ok-runs.runs.items) c.args.entries.now c.in_ok-firsts.firsts.entries) (map item_of c.in_ok-items.items.items) =
     c.in_ok-graph.ensures
     ∙ ap (λ (runs : List Extent). laid (setting c.args.entry c.unwrap-size.result (map run_of runs) c.args.entries.now c.in_ok-firsts.firsts.entries) (map item_of c.as_slice-4.result.now)) c.as_slice-3.ensures.value
     ∙ ap (λ (items : List Item). laid (setting c.args.entry c.unwrap-size.result (map run_of c.in_ok-runs.runs.items) c.args.entries.now c.in_ok-firsts.firsts.entries) (map item_of items)) c.as_slice-4.ensures.value in
-    let total : c.in_ok-count_nodes.field-0 ≡ counted (length c.in_ok-runs.runs.items) 1 (map item_of c.in_ok-items.items.items) =
-    c.in_ok-count_nodes.ensures.count.0 ∙ ap (λ (n : ℕ). counted n 1 (map item_of c.as_slice.result.now)) count
-    ∙ ap (λ (items : List Item). counted (length c.in_ok-runs.runs.items) 1 (map item_of items)) c.as_slice.ensures.value in
+    let total : c.in_ok-count_nodes.field-0 ≡ counted (counting c.args.entry c.unwrap-size.result (length c.in_ok-runs.runs.items)) 1 (map item_of c.in_ok-items.items.items) =
+    c.in_ok-count_nodes.ensures.count.0 ∙ ap (λ (n : ℕ). counted (counting c.args.entry c.unwrap-size.result n) 1 (map item_of c.as_slice.result.now)) count
+    ∙ ap (λ (items : List Item). counted (counting c.args.entry c.unwrap-size.result (length c.in_ok-runs.runs.items)) 1 (map item_of items)) c.as_slice.ensures.value in
     let size = answered_size c.args.image.now c.args.entry c.unwrap-size.result c.args.entries.now c.in_ok-items.items.items c.in_ok-runs.runs.items size_is c.in_ok-items.ensures.found
     c.in_ok-runs.ensures c.in_ok-firsts.firsts.entries (graph_of c.in_ok-graph.graph) numbers made in
     omega (arith, size, total, c.in_ok-count_nodes.ensures.count.1)
@@ -94,10 +85,10 @@ returns-clause-within c =
 pub returns-clause-firsts : goal.returns-clause-firsts
 returns-clause-firsts c =
     let size_is : size_at c.args.image.now c.args.entry ≡ Some c.unwrap-size.result = search rules in
-    let count : c.len-2.result ≡ length c.in_ok-runs.runs.items = omega arith in
-    let numbers : c.in_ok-firsts.firsts.entries ≡ numbered (length c.in_ok-runs.runs.items) 1 (map item_of c.in_ok-items.items.items) =
-    c.in_ok-firsts.ensures ∙ ap (λ (n : ℕ). numbered n 1 (map item_of c.as_slice-2.result.now)) count
-    ∙ ap (λ (items : List Item). numbered (length c.in_ok-runs.runs.items) 1 (map item_of items)) c.as_slice-2.ensures.value in
+    let count : c.len-extents.result ≡ length c.in_ok-runs.runs.items = omega arith in
+    let numbers : c.in_ok-firsts.firsts.entries ≡ numbered (counting c.args.entry c.unwrap-size.result (length c.in_ok-runs.runs.items)) 1 (map item_of c.in_ok-items.items.items) =
+    c.in_ok-firsts.ensures ∙ ap (λ (n : ℕ). numbered (counting c.args.entry c.unwrap-size.result n) 1 (map item_of c.as_slice-2.result.now)) count
+    ∙ ap (λ (items : List Item). numbered (counting c.args.entry c.unwrap-size.result (length c.in_ok-runs.runs.items)) 1 (map item_of items)) c.as_slice-2.ensures.value in
     let have = c.in_ok-runs.ensures in
     let long : length c.in_ok-runs.runs.items ≡ length have.runs =
     sym (length-map c.in_ok-runs.runs.items run_of) ∙ (ap (λ (runs : List Run). length runs) have.same ∙ length-map have.runs blanked) in
@@ -108,5 +99,5 @@ returns-clause-firsts c =
       runs_are = have.are_runs;
       items = map item_of c.in_ok-items.items.items;
       items_are = (sized c.args.image.now c.args.entry c.unwrap-size.result c.in_ok-items.items.items c.in_ok-items.ensures.found.0 size_is).1;
-      numbers = numbers ∙ ap (λ (n : ℕ). numbered n 1 (map item_of c.in_ok-items.items.items)) long;
+      numbers = numbers ∙ ap (λ (n : ℕ). numbered (counting c.args.entry c.unwrap-size.result n) 1 (map item_of c.in_ok-items.items.items)) long;
     }

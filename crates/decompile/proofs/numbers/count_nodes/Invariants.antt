@@ -6,4 +6,4 @@ use Rattle.decompile.proofs.numbers.count_nodes.Given as goal
 -- at most the maximum so far, and with those that are left the whole number
 abbrev pub invariant-loop-item : goal.invariant-loop-item
 invariant-loop-item l =
-    (l.count ≤ l.fn.maximum) × (counted l.fn.runs l.count (map item_of (drop l.item-index l.items)) ≡ counted l.fn.runs 1 (map item_of l.items))
+    (l.count ≤ l.fn.maximum) × (counted l.fn.by l.count (map item_of (drop l.item-index l.items)) ≡ counted l.fn.by 1 (map item_of l.items))

@@ -12,8 +12,8 @@ loop-item-preserved c =
     let rest : drop c.loop-item.item-index c.args.items.now ≡ c.item-item.result ∷ drop (c.loop-item.item-index + 1) c.args.items.now =
     drop_more c.args.items.now c.loop-item.item-index c.item-item.result c.loop-item-test.true
     ∙ ap (λ (x : Item). x ∷ drop (c.loop-item.item-index + 1) c.args.items.now) (sym c.item-item.is) in
-    next_numbered c.args.runs c.loop-item.next c.in_ok-next.next (further_nodes c.args.runs (item_of c.item-item.result)) c.loop-item.firsts.entries c.insert.new.self.entries
+    next_numbered c.args.by c.loop-item.next c.in_ok-next.next (further_nodes c.args.by (item_of c.item-item.result)) c.loop-item.firsts.entries c.insert.new.self.entries
     (item_of c.item-item.result) (map item_of (drop (c.loop-item.item-index + 1) c.args.items.now)) (map item_of c.args.items.now)
     c.in_ok-insert.ensures.entries refl c.in_ok-next.ensures
-    (ap (λ (is : List Item). c.loop-item.firsts.entries ++ numbered c.args.runs c.loop-item.next (map item_of is)) (sym rest) ∙ c.loop-item.invariant)
+    (ap (λ (is : List Item). c.loop-item.firsts.entries ++ numbered c.args.by c.loop-item.next (map item_of is)) (sym rest) ∙ c.loop-item.invariant)
     (subst (λ (xs : List ℕ). IsStrictlyIncreasing xs) (sym (same_keys c.args.items.now)) c.requires.rising)

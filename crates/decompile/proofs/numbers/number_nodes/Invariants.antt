@@ -5,4 +5,4 @@ use Rattle.decompile.proofs.numbers.number_nodes.Given as goal
 
 abbrev pub invariant-loop-item : goal.invariant-loop-item
 invariant-loop-item l =
-    l.firsts.entries ++ numbered l.fn.runs l.next (map item_of (drop l.item-index l.items)) ≡ numbered l.fn.runs 1 (map item_of l.items)
+    l.firsts.entries ++ numbered l.fn.by l.next (map item_of (drop l.item-index l.items)) ≡ numbered l.fn.by 1 (map item_of l.items)

@@ -1,6 +1,5 @@
 use Rattle.std.proofs.Common.{refl, arith}
-use Rattle.code_reach_spec.specs.Code.{HasCode, Jumps, CallsOn, here, tail, itself, further}
-use Rattle.code_reach_spec.specs.Faults.{leaves}
+use Rattle.code_reach_spec.specs.Code.{HasCode, CallsOn, here, tail, itself, further}
 use Rattle.example_laws.specs.CodeSamples.{tail_call, tail_call_bytes}
 use Rattle.example_laws.proofs.CodeWorked.{has_code, inside_range, code_computes}
 use Rattle.example_laws.proofs.code.a_jump_out_is_a_tail_call.Goals as goal
@@ -20,5 +19,4 @@ returns c = record {
   calls = calls;
   reaches = further 0x10000 4 0x10004 itself refl calls;
   outside = λ reached. omega (arith, (inside_range tail_call 0x10000 4 0x10004 reached).below);
-  refused = leaves (Jumps 0x10004) 0x10004 refl (0, omega arith, refl) (λ inside. omega (arith, inside.below));
 }

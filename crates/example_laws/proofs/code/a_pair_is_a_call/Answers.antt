@@ -1,7 +1,5 @@
-use Rattle.std.proofs.Common.{refl, arith, pos}
-use Rattle.rv_instr.specs.declared.Instr.TheVariants.{Jalr}
+use Rattle.std.proofs.Common.{refl, arith}
 use Rattle.code_reach_spec.specs.Code.{HasCode, Falls, Calls, IsReachable, here, next, call}
-use Rattle.code_reach_spec.specs.Faults.{indirect}
 use Rattle.example_laws.specs.CodeSamples.{pair, pair_bytes}
 use Rattle.example_laws.proofs.CodeWorked.{has_code, code_computes}
 use Rattle.example_laws.proofs.code.a_pair_is_a_call.Goals as goal
@@ -21,5 +19,4 @@ returns c = record {
   returns = next 0x10004 0x10008 (Calls 0x1000c) jump refl (0, omega arith, refl) (record { from = omega arith; below = omega arith });
   calls = call 0x10004 0x1000c jump refl refl;
   alone = refl;
-  refused = indirect (Jalr 1 5 (pos 12)) refl refl;
 }

@@ -1,4 +1,5 @@
-use Rattle.std.proofs.Common.{ℕ, List, take, get_or, sym, subst, arith}
+use Rattle.std.proofs.Common.{◌∙◌, List, [], ◌∷◌, ◌++◌, take, sym, ap, subst, arith}
+use Rattle.pair_setup.specs.declared.calling.Step.{Step}
 use Rattle.std.specs.Prelude.{nat_eq}
 use Rattle.std.proofs.lemmas.List.{take_more, take_all}
 use Rattle.indexmap.specs.IndexMap.{get}
@@ -6,16 +7,16 @@ use Rattle.pair_setup.specs.Stacks.{IsTally}
 use Rattle.pair_setup.proofs.Totals.{tally-none, tally-more}
 use Rattle.pair_setup.proofs.stacks.tallied.Goals as goal
 
-pub loop-word-init : goal.loop-word-init
-loop-word-init c = tally-none (get nat_eq c.args.known.now)
+pub loop-step-init : goal.loop-step-init
+loop-step-init c = tally-none (get nat_eq c.args.known.now)
 
-pub loop-word-preserved : goal.loop-word-preserved
-loop-word-preserved c =
-    let words = c.args.words.now in
-    let i = c.loop-word.word-index in
-    subst (λ (l : List (ℕ × ℕ)). IsTally (get nat_eq c.args.known.now) l c.in_ok-more.more) (sym (take_more words i (0, 0) c.loop-word-test.true))
-    (tally-more (get nat_eq c.args.known.now) (take i words) (get_or words i (0, 0)) c.loop-word.tally c.in_ok-more.more c.loop-word.invariant c.in_ok-more.ensures)
+pub loop-step-preserved : goal.loop-step-preserved
+loop-step-preserved c =
+    let steps = c.args.steps.now in
+    let i = c.loop-step.step-index in
+    subst (λ (l : List Step). IsTally (get nat_eq c.args.known.now) l c.in_ok-more.more) (sym (take_more steps i c.step-item.result c.loop-step-test.true ∙ ap (λ (x : Step). take i steps ++ x ∷ []) (sym c.step-item.is)))
+    (tally-more (get nat_eq c.args.known.now) (take i steps) c.step-item.result c.loop-step.tally c.in_ok-more.more c.loop-step.invariant c.in_ok-more.ensures)
 
 pub returns : goal.returns
 returns c =
-    subst (λ (l : List (ℕ × ℕ)). IsTally (get nat_eq c.args.known.now) l c.loop-word.tally) (take_all c.loop-word.word-index c.args.words.now (omega arith)) c.loop-word.invariant
+    subst (λ (l : List Step). IsTally (get nat_eq c.args.known.now) l c.loop-step.tally) (take_all c.loop-step.step-index c.args.steps.now (omega arith)) c.loop-step.invariant

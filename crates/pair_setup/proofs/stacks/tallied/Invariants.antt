@@ -4,5 +4,5 @@ use Rattle.indexmap.specs.IndexMap.{get}
 use Rattle.pair_setup.specs.Stacks.{IsTally}
 use Rattle.pair_setup.proofs.stacks.tallied.Given as goal
 
-abbrev pub invariant-loop-word : goal.invariant-loop-word
-invariant-loop-word l = IsTally (get nat_eq l.known) (take l.word-index l.words) l.tally
+abbrev pub invariant-loop-step : goal.invariant-loop-step
+invariant-loop-step l = IsTally (get nat_eq l.known) (take l.step-index l.steps) l.tally

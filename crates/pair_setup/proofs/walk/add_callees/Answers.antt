@@ -1,4 +1,5 @@
-use Rattle.std.proofs.Common.{ℕ, List, take, get_or, sym, subst, arith}
+use Rattle.std.proofs.Common.{◌∙◌, List, [], ◌∷◌, ◌++◌, take, sym, ap, subst, arith}
+use Rattle.pair_setup.specs.declared.calling.Step.{Step}
 use Rattle.std.proofs.lemmas.List.{take_more, take_all}
 use Rattle.call_graph.specs.Graph.{Grows}
 use Rattle.pair_setup.specs.Names.{IsOf}
@@ -6,18 +7,18 @@ use Rattle.pair_setup.specs.Walks.{IsCalled}
 use Rattle.pair_setup.proofs.Added.{of-none, of-more}
 use Rattle.pair_setup.proofs.walk.add_callees.Goals as goal
 
-pub loop-word-init : goal.loop-word-init
-loop-word-init c = of-none IsCalled c.args.entries.now.keys
+pub loop-step-init : goal.loop-step-init
+loop-step-init c = of-none IsCalled c.args.entries.now.keys
 
-pub loop-word-preserved : goal.loop-word-preserved
-loop-word-preserved c =
-    let words = c.args.words.now in
-    let i = c.loop-word.word-index in
-    subst (λ (l : List (ℕ × ℕ)). Grows (IsOf IsCalled l) c.args.entries.now.keys c.add_callee.new.entries.keys) (sym (take_more words i (0, 0) c.loop-word-test.true))
-    (of-more IsCalled (take i words) (get_or words i (0, 0)) c.args.entries.now.keys c.loop-word.entries.keys c.add_callee.new.entries.keys c.loop-word.invariant
+pub loop-step-preserved : goal.loop-step-preserved
+loop-step-preserved c =
+    let steps = c.args.steps.now in
+    let i = c.loop-step.step-index in
+    subst (λ (l : List Step). Grows (IsOf IsCalled l) c.args.entries.now.keys c.add_callee.new.entries.keys) (sym (take_more steps i c.step-item.result c.loop-step-test.true ∙ ap (λ (x : Step). take i steps ++ x ∷ []) (sym c.step-item.is)))
+    (of-more IsCalled (take i steps) c.step-item.result c.args.entries.now.keys c.loop-step.entries.keys c.add_callee.new.entries.keys c.loop-step.invariant
     c.in-Ok-attempt.ensures)
 
 pub returns : goal.returns
 returns c =
-    subst (λ (l : List (ℕ × ℕ)). Grows (IsOf IsCalled l) c.args.entries.now.keys c.loop-word.entries.keys) (take_all c.loop-word.word-index c.args.words.now (omega arith))
-    c.loop-word.invariant
+    subst (λ (l : List Step). Grows (IsOf IsCalled l) c.args.entries.now.keys c.loop-step.entries.keys) (take_all c.loop-step.step-index c.args.steps.now (omega arith))
+    c.loop-step.invariant

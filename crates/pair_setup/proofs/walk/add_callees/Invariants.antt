@@ -4,5 +4,5 @@ use Rattle.pair_setup.specs.Names.{IsOf}
 use Rattle.pair_setup.specs.Walks.{IsCalled}
 use Rattle.pair_setup.proofs.walk.add_callees.Given as goal
 
-abbrev pub invariant-loop-word : goal.invariant-loop-word
-invariant-loop-word l = Grows (IsOf IsCalled (take l.word-index l.words)) l.initial.entries.keys l.entries.keys
+abbrev pub invariant-loop-step : goal.invariant-loop-step
+invariant-loop-step l = Grows (IsOf IsCalled (take l.step-index l.steps)) l.initial.entries.keys l.entries.keys
