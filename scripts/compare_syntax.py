@@ -22,13 +22,14 @@ import syntax
 from compare_tokens import MARKER, PIECE, second_tokens
 from probe import ask
 
-CRATES = ["c_token", "c_parse"]
+CRATES = ["attempt", "c_token", "c_parse"]
 
 # Reads lines of hexadecimal bytes, each a text that has tokens, and prints for each `ok` or its fault.
 PROBE = r"""//! Prints the faults of texts that are lines of hexadecimal bytes.
 #![tactic(auto)]
 
-use c_parse::{ParseError, parse};
+use attempt::Refusal;
+use c_parse::parse;
 use c_token::tokens;
 use std::io::{BufRead, BufReader};
 
@@ -57,8 +58,8 @@ fn main(rt: HostRuntime) -> anyhow::Result<()> {
         };
         match parse(rt.alloc(), all.as_slice()) {
             Ok(_) => println!(rt; "= ok")?,
-            Err(ParseError::NoMemory) => println!(rt; "= no memory")?,
-            Err(ParseError::Fault(fault)) => {
+            Err(Refusal::NoMemory) => println!(rt; "= no memory")?,
+            Err(Refusal::Fault(fault)) => {
                 println!(rt; "= {:?} at {}", fault.kind, fault.offset(all.as_slice(), text.len()))?;
             }
         }

@@ -26,7 +26,7 @@ from compare_search import LIMIT, asked, goals, question
 from probe import ROOT, built, timed
 from terms import clauses
 
-CRATES = ["clause_check_spec", "cnf_core", "clause_check"]
+CRATES = ["attempt", "clause_check_spec", "cnf_core", "clause_check"]
 
 # what both programs end with: a clause of the variables that there are is added
 PUSH = r"""
@@ -53,7 +53,8 @@ ghost use Rattle.clause_check_spec.specs.Clause.{is_of};
 
 mod numbers;
 
-use clause_check::{Log, StepError};
+use attempt::Refusal;
+use clause_check::{Log, StepFault};
 use cnf_core::{Cnf, Literal};
 use numbers::argument;
 use std::alloc::{AllocError, Global};
@@ -95,14 +96,14 @@ fn names_of(alloc: Global, hints: usize) -> Result<Vec<usize>, AllocError> {
     Ok(names)
 }
 
-fn repeat(log: &mut Log, literals: &[Literal], hints: &[usize], steps: usize) -> Result<(), StepError> {
+fn repeat(log: &mut Log, literals: &[Literal], hints: &[usize], steps: usize) -> Result<(), Refusal<StepFault>> {
     for _ in 0..steps {
         log.step(literals, hints)?;
     }
     Ok(())
 }
 
-fn checked(alloc: Global, steps: usize, hints: usize, wide: usize) -> Result<(), StepError> {
+fn checked(alloc: Global, steps: usize, hints: usize, wide: usize) -> Result<(), Refusal<StepFault>> {
     let cnf = chain_of(alloc, hints, wide)?;
     let names = names_of(alloc, hints)?;
     let chain = hints.wrapping_add(1);
@@ -111,7 +112,7 @@ fn checked(alloc: Global, steps: usize, hints: usize, wide: usize) -> Result<(),
     repeat(&mut log, literals.as_slice(), names.as_slice(), steps)
 }
 
-fn all_checked(alloc: Global, words: &[String]) -> Result<(), StepError> {
+fn all_checked(alloc: Global, words: &[String]) -> Result<(), Refusal<StepFault>> {
     for _ in 0..argument(words, 4) {
         checked(alloc, argument(words, 1), argument(words, 2), argument(words, 3))?;
     }
@@ -136,7 +137,8 @@ ghost use Rattle.clause_check_spec.specs.Clause.{is_of};
 
 mod numbers;
 
-use clause_check::{Log, StepError};
+use attempt::Refusal;
+use clause_check::{Log, StepFault};
 use cnf_core::{Cnf, Literal};
 use numbers::{argument, decimal};
 use std::alloc::{AllocError, Global};
@@ -198,7 +200,7 @@ fn given(alloc: Global, variables: usize, lines: &[Line]) -> Result<Cnf, AllocEr
     Ok(cnf)
 }
 
-fn add_steps(log: &mut Log, lines: &[Line]) -> Result<(), StepError> {
+fn add_steps(log: &mut Log, lines: &[Line]) -> Result<(), Refusal<StepFault>> {
     for line in lines {
         if !line.hints.is_empty() {
             log.step(line.literals.as_slice(), line.hints.as_slice())?;
@@ -207,13 +209,13 @@ fn add_steps(log: &mut Log, lines: &[Line]) -> Result<(), StepError> {
     Ok(())
 }
 
-fn checked(alloc: Global, variables: usize, lines: &[Line]) -> Result<(), StepError> {
+fn checked(alloc: Global, variables: usize, lines: &[Line]) -> Result<(), Refusal<StepFault>> {
     let cnf = given(alloc, variables, lines)?;
     let mut log = Log::new(alloc, cnf)?;
     add_steps(&mut log, lines)
 }
 
-fn all_checked(alloc: Global, rounds: usize, variables: usize, lines: &[Line]) -> Result<(), StepError> {
+fn all_checked(alloc: Global, rounds: usize, variables: usize, lines: &[Line]) -> Result<(), Refusal<StepFault>> {
     for _ in 0..rounds {
         checked(alloc, variables, lines)?;
     }

@@ -11,12 +11,13 @@ many bytes of memory more than for the least text each byte of it takes, the tex
 
 from probe import measure, timed
 
-CRATES = ["c_token", "c_parse"]
+CRATES = ["attempt", "c_token", "c_parse"]
 
 PROBE = r"""//! Prints how many tokens and items a file has, and in how many microseconds either were read.
 #![tactic(auto)]
 
-use c_parse::{ParseError, parse};
+use attempt::Refusal;
+use c_parse::parse;
 use c_token::tokens;
 use std::env;
 use std::fs;
@@ -34,8 +35,8 @@ fn main(rt: HostRuntime) -> anyhow::Result<()> {
     let parsed = begin.elapsed(&rt)?.as_micros();
     match read {
         Ok(unit) => println!(rt; "{} {} {lexed} {parsed}", all.len(), unit.items.len())?,
-        Err(ParseError::NoMemory) => println!(rt; "no memory")?,
-        Err(ParseError::Fault(fault)) => println!(rt; "{:?} at token {}", fault.kind, fault.token)?,
+        Err(Refusal::NoMemory) => println!(rt; "no memory")?,
+        Err(Refusal::Fault(fault)) => println!(rt; "{:?} at token {}", fault.kind, fault.token)?,
     }
     Ok(())
 }

@@ -6,7 +6,8 @@ use Rattle.bit_blast_spec.specs.Gates.{last_of, Build, give, ◌>>=◌}
 use Rattle.bit_blast_circuits.specs.Built.{with_gates, IsBuilt, Continues}
 use Rattle.bit_blast_circuits.proofs.Built.{last_of-append, continues_start, continues_then, continues_end}
 use Rattle.bit_blast_laws.proofs.Made.{last_rises}
-use Rattle.bit_blast.specs.declared.error.BlastError.{BlastError}
+use Rattle.attempt.specs.declared.refusal.Refusal.{Refusal}
+use Rattle.bit_blast.specs.declared.error.BlastFault.{BlastFault}
 use Rattle.bit_blast.specs.Within.{BuiltWithin, IfLarge}
 
 -- ---- counts of variables

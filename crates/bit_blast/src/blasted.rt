@@ -7,14 +7,14 @@ ghost use Rattle.bit_blast_laws.specs.Back.{TableLoadsFromVariables};
 ghost use Rattle.bit_blast.specs.Models.{HasModel, CanBeFalse};
 ghost use Rattle.bit_blast.specs.Within.{IfLarge};
 
-use crate::error::BlastError;
+use crate::error::BlastFault;
 use crate::indices::index_of;
 use crate::loads::tie_memories;
 use crate::operators::bit_of;
 use crate::state::Traversal;
 use crate::table::TermTable;
 use crate::traversal::traversal;
-use attempt::attempt;
+use attempt::{Refusal, attempt};
 use bit_blast_circuits::Gates;
 use cnf_core::{Cnf, negation};
 use std::alloc::Global;
@@ -31,13 +31,14 @@ pub struct Blasted {
 }
 
 /// Refuses gates with more variables than the maximum.
-fn within(gates: &Gates, maximum: usize) -> Result<(), BlastError>
+fn within(gates: &Gates, maximum: usize) -> Result<(), Refusal<BlastFault>>
     ensures within { OnOk result (gates.now.variables ≤ maximum) }
-    ensures large { IfErr result (λ error. (error ≡ BlastError.Large gates.now.variables)
+    ensures large { IfErr result
+        (λ error. (error ≡ Refusal.Fault (BlastFault.Large gates.now.variables))
         × (maximum < gates.now.variables)) }
 {
     if gates.last() > maximum {
-        return Err(BlastError::Large(gates.last()));
+        return Err(Refusal::Fault(BlastFault::Large(gates.last())));
     }
     Ok(())
 }
@@ -52,7 +53,7 @@ pub fn blast(
     bank: &Bank,
     goal: TermId,
     maximum: usize,
-) -> Result<Blasted, BlastError>
+) -> Result<Blasted, Refusal<BlastFault>>
     requires { goal < length bank.now }
     ensures clauses { IfOk result (λ blasted. blasted.cnf ≡ cnf_of (tree_at bank.now goal)) }
     ensures terms { IfOk result (λ blasted. blasted.table
@@ -69,10 +70,10 @@ pub fn blast(
         → CanBeFalse t) }
 {
     let mut gates = Gates::new(alloc);
-    let _truth = attempt!(gates.truth(), BlastError::NoMemory);
+    let _truth = attempt!(gates.truth(), Refusal::NoMemory);
     let traversal = attempt!(
         traversal(alloc, bank, gates, goal, maximum),
-        BlastError::NoMemory
+        Refusal::NoMemory
     );
     attempt!(within(&traversal.gates, maximum));
     let index = index_of(&traversal.indices, goal);
@@ -83,12 +84,12 @@ pub fn blast(
     } = traversal;
     attempt!(
         tie_memories(alloc, &mut gates, &table, maximum),
-        BlastError::NoMemory
+        Refusal::NoMemory
     );
     attempt!(within(&gates, maximum));
     attempt!(
         gates.claim(&[negation(bit_of(table.bits(index)))]),
-        BlastError::NoMemory
+        Refusal::NoMemory
     );
     let cnf = gates.into_cnf();
     Ok(Blasted { cnf, table })

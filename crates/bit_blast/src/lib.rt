@@ -24,5 +24,5 @@ mod traversal;
 
 pub use back::read_back;
 pub use blasted::{Blasted, blast};
-pub use error::BlastError;
+pub use error::BlastFault;
 pub use table::TermTable;

@@ -1,4 +1,5 @@
-//! What holds of the clauses of folded gates: each function's clause is a law, and its body is empty.
+//! What holds of the clauses of folded gates: each function's clause is a law, and its body is
+//! empty.
 
 ghost use Rattle.std.specs.Prelude.{◌≡◌, true, List};
 ghost use Rattle.clause_check_spec.specs.Clause.{Valuation, satisfies};

@@ -13,7 +13,8 @@ pub fn folded_gates_have_their_value()
     ensures or { (values : Valuation) (s t : Signal)
         → folded_value values (fold_or s t) ≡ (signal_value values s || signal_value values t) }
     ensures xor { (values : Valuation) (s t : Signal)
-        → folded_value values (fold_xor s t) ≡ sign (signal_value values s) (signal_value values t) }
+        → folded_value values (fold_xor s t)
+        ≡ sign (signal_value values s) (signal_value values t) }
     ensures mux { (values : Valuation) (c s t : Signal)
         → folded_value values (fold_mux c s t)
         ≡ (if signal_value values c then signal_value values s else signal_value values t) }

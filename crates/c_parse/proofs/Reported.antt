@@ -17,8 +17,9 @@ use Rattle.c_parse_laws.specs.Units.{read_external_declarations, read_unit}
 use Rattle.c_parse_laws.proofs.UnitAll.{unit-is_exact}
 use Rattle.c_parse_laws.proofs.Faults.{unit-reports}
 use Rattle.c_parse_token.specs.Lists.{list_of}
-use Rattle.c_parse.specs.declared.ParseError.{ParseError}
-use Rattle.c_parse.specs.declared.ParseError.TheVariants.{Fault as a_fault, NoMemory}
+use Rattle.attempt.specs.declared.refusal.Refusal.{Refusal}
+use Rattle.attempt.specs.declared.refusal.Refusal.TheVariants as refusal
+use Rattle.c_parse.specs.declared.ParseFault.{ParseFault}
 use Rattle.c_parse.specs.Refused.{IsFaultOf, reported}
 
 read-whole : (tokens : List Placed) (unit : TranslationUnit) → read_external_declarations tokens ≡ Ok (unit, []) → read_unit tokens ≡ Ok unit
@@ -32,9 +33,9 @@ pub unit-same : (tokens : List Placed) (unit other : TranslationUnit) → read_e
 unit-same tokens unit other e h = let both : Ok other ≡ Ok unit = sym (unit-is_exact.only tokens other h) ∙ read-whole tokens unit e in cc
 
 -- where there is a unit memory alone can be wanting
-pub unit-only : (tokens : List Placed) (unit : TranslationUnit) (error : ParseError) → IsUnit tokens unit → IsFaultOf tokens error → error ≡ NoMemory
-unit-only tokens unit (a_fault fault) h f = absurd (unit-reports.none tokens unit fault.kind (drop fault.token tokens) h f.1)
-unit-only tokens unit NoMemory h f = refl
+pub unit-only : (tokens : List Placed) (unit : TranslationUnit) (error : Refusal ParseFault) → IsUnit tokens unit → IsFaultOf tokens error → error ≡ refusal.NoMemory
+unit-only tokens unit (refusal.Fault fault) h f = absurd (unit-reports.none tokens unit fault.kind (drop fault.token tokens) h f.1)
+unit-only tokens unit refusal.NoMemory h f = refl
 
 -- a fault that is read is the fault of the tokens
 pub fault-reported : (tokens : List Placed) (fault : Fault Role) (rest : List Placed) → read_external_declarations tokens ≡ Err (fault, rest) → IsFault tokens (reported fault rest) rest

@@ -6,11 +6,12 @@ use Rattle.c_parse_spec.specs.declared.ParseFaultKind.TheVariants.{Depth}
 use Rattle.c_parse_spec.specs.declared.Role.{Role}
 use Rattle.c_parse_spec.specs.Faults.{IsFault, fault_kind}
 use Rattle.exact_read.specs.Reading.{Fault as Stop, LimitExceeded, Wrong}
-use Rattle.c_parse.specs.declared.ParseError.{ParseError}
-use Rattle.c_parse.specs.declared.ParseError.TheVariants.{Fault, NoMemory}
+use Rattle.attempt.specs.declared.refusal.Refusal.{Refusal}
+use Rattle.attempt.specs.declared.refusal.Refusal.TheVariants.{Fault, NoMemory}
+use Rattle.c_parse.specs.declared.ParseFault.{ParseFault}
 
 -- the fault of the tokens: out of memory may always come
-abbrev pub IsFaultOf : (tokens : List Placed) → ParseError → Type 0
+abbrev pub IsFaultOf : (tokens : List Placed) → Refusal ParseFault → Type 0
 IsFaultOf tokens (Fault fault) = (fault.token ≤ length tokens) × IsFault tokens fault.kind (drop fault.token tokens)
 IsFaultOf tokens NoMemory = Unit {0}
 

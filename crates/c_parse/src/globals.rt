@@ -12,9 +12,10 @@ ghost use Rattle.c_parse.specs.Following.{read_value, read_globals_after, declar
 
 use crate::class::{declare, is_typedef};
 use crate::initial::initial;
+use attempt::Refusal;
 use c_parse_declaration::{Scope, global};
 use c_parse_spec::{Role, STATEMENT_FUEL};
-use c_parse_token::{Stopped, Tokens, TypedefNames, allocated, attempt};
+use c_parse_token::{SyntaxFault, Tokens, TypedefNames, allocated, attempt};
 use c_syntax::expression::{Specifiers, boxed};
 use c_syntax::unit::{ExternalDeclaration, Global as GlobalDeclarator};
 use c_token_spec::token::Punctuator;
@@ -25,7 +26,7 @@ fn value<'t>(
     alloc: Global,
     tokens: &mut Tokens<'t>,
     names: &TypedefNames<'t>,
-) -> Result<Role, Stopped>
+) -> Result<Role, Refusal<SyntaxFault>>
     ensures gives { Parses (read_map units.end_of_global (read_value (names_of names.now))) (λ x. x)
         tokens.old tokens.new result }
     ensures shorter { IfOk result (λ _. IsNoLonger tokens.new tokens.old) }
@@ -51,7 +52,7 @@ fn declared<'t>(
     is_typedef: bool,
     first: Box<GlobalDeclarator<'t>>,
     all: &mut Vec<Box<GlobalDeclarator<'t>>>,
-) -> Result<Role, Stopped>
+) -> Result<Role, Refusal<SyntaxFault>>
     requires fresh { is_typedef_name (names_of names.old) (name_of_global (global_of first.value))
         ≡ false }
     ensures gives { Parses (read_map units.end_of_global (read_value (names_after is_typedef
@@ -76,7 +77,7 @@ fn more_globals<'t>(
     specifiers: &Specifiers<'t>,
     all: &mut Vec<Box<GlobalDeclarator<'t>>>,
     end: Role,
-) -> Result<(), Stopped>
+) -> Result<(), Refusal<SyntaxFault>>
     ensures gives { Parses (read_globals_after (specifiers_of specifiers.now) (map global_of
         (unboxed all.old)) (names_of names.old, end)) (λ _. declared_as (specifiers_of
         specifiers.now) (map global_of (unboxed all.new)) (names_of names.new)) tokens.old
@@ -101,7 +102,7 @@ pub fn globals<'t>(
     names: &mut TypedefNames<'t>,
     specifiers: Box<Specifiers<'t>>,
     first: Box<GlobalDeclarator<'t>>,
-) -> Result<Box<ExternalDeclaration<'t>>, Stopped>
+) -> Result<Box<ExternalDeclaration<'t>>, Refusal<SyntaxFault>>
     requires fresh { is_typedef_name (names_of names.old) (name_of_global (global_of first.value))
         ≡ false }
     ensures gives { Parses (units.read_globals (names_of names.old) (specifiers_of

@@ -9,14 +9,15 @@ ghost use Rattle.c_parse.specs.Following.{read_designation};
 ghost use Rattle.c_parse_spec.specs.Limits.{nesting_limit};
 
 use crate::class::{starts_designator, starts_initial};
+use attempt::Refusal;
 use c_parse_declaration::Scope;
 use c_parse_expression::whole;
 use c_parse_spec::Role;
-use c_parse_token::{Fault, Stopped, Tokens, attempt};
+use c_parse_token::{SyntaxFault, Tokens, attempt};
 use c_token_spec::token::Punctuator;
 
 // `.` and a member, or an index in brackets.
-fn designator<'t>(scope: Scope<'_, 't>, tokens: &mut Tokens<'t>) -> Result<(), Stopped>
+fn designator<'t>(scope: Scope<'_, 't>, tokens: &mut Tokens<'t>) -> Result<(), Refusal<SyntaxFault>>
     requires depth { scope.depth ≤ nesting_limit }
     ensures gives { Parses (initializers.read_designator (parsers_in scope.entry) scope.entry.depth)
         (λ _. tt {0}) tokens.old tokens.new result }
@@ -35,7 +36,10 @@ fn designator<'t>(scope: Scope<'_, 't>, tokens: &mut Tokens<'t>) -> Result<(), S
 }
 
 // One designator or more.
-fn designators<'t>(scope: Scope<'_, 't>, tokens: &mut Tokens<'t>) -> Result<(), Stopped>
+fn designators<'t>(
+    scope: Scope<'_, 't>,
+    tokens: &mut Tokens<'t>,
+) -> Result<(), Refusal<SyntaxFault>>
     requires depth { scope.depth ≤ nesting_limit }
     ensures gives { Parses (initializers.read_designators (parsers_in scope.entry)
         scope.entry.depth) (λ _. tt {0}) tokens.old tokens.new result }
@@ -49,7 +53,10 @@ fn designators<'t>(scope: Scope<'_, 't>, tokens: &mut Tokens<'t>) -> Result<(), 
 }
 
 // The designators of a value, and `=`.
-fn designation<'t>(scope: Scope<'_, 't>, tokens: &mut Tokens<'t>) -> Result<(), Stopped>
+fn designation<'t>(
+    scope: Scope<'_, 't>,
+    tokens: &mut Tokens<'t>,
+) -> Result<(), Refusal<SyntaxFault>>
     requires depth { scope.depth ≤ nesting_limit }
     ensures gives { Parses (read_designation (parsers_in scope.entry) scope.entry.depth) (λ _. tt
         {0}) tokens.old tokens.new result }
@@ -66,7 +73,7 @@ fn designated<'t>(
     scope: Scope<'_, 't>,
     tokens: &mut Tokens<'t>,
     fuel: usize,
-) -> Result<Role, Stopped>
+) -> Result<Role, Refusal<SyntaxFault>>
     requires depth { scope.depth ≤ nesting_limit }
     ensures gives { Parses (read_map initializers.end_of_initial (initializers.read_designated
         (parsers_in scope.entry) scope.entry.depth (initializers.read_initial (names_in scope.entry)
@@ -81,7 +88,11 @@ fn designated<'t>(
 
 // The initial values after a `{`, with its `}`.
 #[cycle(initials)]
-fn initials<'t>(scope: Scope<'_, 't>, tokens: &mut Tokens<'t>, fuel: usize) -> Result<(), Stopped>
+fn initials<'t>(
+    scope: Scope<'_, 't>,
+    tokens: &mut Tokens<'t>,
+    fuel: usize,
+) -> Result<(), Refusal<SyntaxFault>>
     requires depth { scope.depth ≤ nesting_limit }
     ensures gives { Parses (initializers.read_initials (names_in scope.entry) (parsers_in
         scope.entry) scope.entry.depth (initializers.read_initial (names_in scope.entry) (parsers_in
@@ -108,7 +119,7 @@ pub fn initial<'t>(
     scope: Scope<'_, 't>,
     tokens: &mut Tokens<'t>,
     fuel: usize,
-) -> Result<Role, Stopped>
+) -> Result<Role, Refusal<SyntaxFault>>
     requires { scope.depth ≤ nesting_limit }
     ensures gives { Parses (read_map initializers.end_of_initial (initializers.read_initial
         (names_in scope.entry) (parsers_in scope.entry) fuel scope.entry.depth)) (λ x. x) tokens.old
@@ -116,7 +127,7 @@ pub fn initial<'t>(
     ensures shorter { IfOk result (λ _. IsShorter tokens.new tokens.old) }
 {
     if fuel == 0 {
-        return Err(Stopped::At(Fault::LimitExceeded));
+        return Err(Refusal::Fault(SyntaxFault::LimitExceeded));
     }
     if !tokens.next_is(Punctuator::LeftBrace) {
         let value = attempt!(whole(scope.alloc, tokens, scope.names, scope.depth));

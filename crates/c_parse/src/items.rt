@@ -12,10 +12,11 @@ ghost use Rattle.c_parse.specs.Following.{read_block, read_after_specifiers};
 
 use crate::class::is_typedef;
 use crate::globals::globals;
+use attempt::Refusal;
 use c_parse_declaration::{Scope, external_specifiers, global};
 use c_parse_spec::Role;
 use c_parse_statement::parts;
-use c_parse_token::{Stopped, Tokens, TypedefNames, allocated, attempt};
+use c_parse_token::{SyntaxFault, Tokens, TypedefNames, allocated, attempt};
 use c_syntax::expression::{Specifiers, boxed};
 use c_syntax::statement::Part;
 use c_syntax::unit::{
@@ -29,7 +30,7 @@ fn body<'t>(
     alloc: Global,
     tokens: &mut Tokens<'t>,
     names: &TypedefNames<'t>,
-) -> Result<(Vec<Part<'t>>, usize), Stopped>
+) -> Result<(Vec<Part<'t>>, usize), Refusal<SyntaxFault>>
     ensures gives { Parses (read_block (names_of names.now)) (λ x. (parts_in x.0, x.1)) tokens.old
         tokens.new result }
     ensures shorter { IfOk result (λ _. IsShorter tokens.new tokens.old) }
@@ -52,7 +53,7 @@ fn definition<'t>(
     names: &TypedefNames<'t>,
     specifiers: Box<Specifiers<'t>>,
     declarator: Box<FunctionDeclarator<'t>>,
-) -> Result<Box<ExternalDeclaration<'t>>, Stopped>
+) -> Result<Box<ExternalDeclaration<'t>>, Refusal<SyntaxFault>>
     ensures gives { Parses (units.read_body (names_of names.now) (specifiers_of
         specifiers.entry.value) (function_of declarator.entry.value))
         (λ x. (external_declaration_of x.value, names_of names.now)) tokens.old tokens.new result }
@@ -70,7 +71,7 @@ fn after_global<'t>(
     names: &mut TypedefNames<'t>,
     specifiers: Box<Specifiers<'t>>,
     first: Box<GlobalDeclarator<'t>>,
-) -> Result<Box<ExternalDeclaration<'t>>, Stopped>
+) -> Result<Box<ExternalDeclaration<'t>>, Refusal<SyntaxFault>>
     requires fresh { is_typedef_name (names_of names.old) (name_of_global (global_of first.value))
         ≡ false }
     ensures gives { Parses (units.read_after_global (names_of names.old) (specifiers_of
@@ -98,7 +99,7 @@ fn after_specifiers<'t>(
     tokens: &mut Tokens<'t>,
     names: &mut TypedefNames<'t>,
     specifiers: Box<Specifiers<'t>>,
-) -> Result<Box<ExternalDeclaration<'t>>, Stopped>
+) -> Result<Box<ExternalDeclaration<'t>>, Refusal<SyntaxFault>>
     ensures gives { Parses (read_after_specifiers (names_of names.old) (specifiers_of
         specifiers.entry.value)) (λ x. (external_declaration_of x.value, names_of names.new))
         tokens.old tokens.new result }
@@ -118,7 +119,7 @@ fn item<'t>(
     alloc: Global,
     tokens: &mut Tokens<'t>,
     names: &mut TypedefNames<'t>,
-) -> Result<Box<ExternalDeclaration<'t>>, Stopped>
+) -> Result<Box<ExternalDeclaration<'t>>, Refusal<SyntaxFault>>
     ensures gives { Parses (units.read_external_declaration (names_of names.old))
         (λ x. (external_declaration_of x.value, names_of names.new)) tokens.old tokens.new result }
     ensures shorter { IfOk result (λ _. IsShorter tokens.new tokens.old) }
@@ -137,7 +138,7 @@ fn items<'t>(
     tokens: &mut Tokens<'t>,
     names: &mut TypedefNames<'t>,
     all: &mut Vec<Box<ExternalDeclaration<'t>>>,
-) -> Result<(), Stopped>
+) -> Result<(), Refusal<SyntaxFault>>
     requires none { all.old.items ≡ [] }
     requires unnamed { names_of names.old ≡ [] }
     ensures gives { Parses units.read_external_declarations (λ _. map external_declaration_of
@@ -152,7 +153,10 @@ fn items<'t>(
 }
 
 /// The unit that the tokens are, up to their end.
-pub fn unit<'t>(alloc: Global, tokens: &mut Tokens<'t>) -> Result<TranslationUnit<'t>, Stopped>
+pub fn unit<'t>(
+    alloc: Global,
+    tokens: &mut Tokens<'t>,
+) -> Result<TranslationUnit<'t>, Refusal<SyntaxFault>>
     ensures gives { Parses units.read_external_declarations unit_of tokens.old tokens.new result }
     ensures whole { IfOk result (λ _. tokens.new.rest.now ≡ []) }
 {

@@ -22,8 +22,9 @@ mod initial_scan;
 mod items;
 mod kind;
 
+use attempt::Refusal;
 use c_parse_spec::ParseFaultKind;
-use c_parse_token::{Fault, Stopped, Tokens};
+use c_parse_token::{SyntaxFault, Tokens};
 use c_syntax::unit::TranslationUnit;
 use c_token::Token;
 pub use initial_scan::definition_in;
@@ -40,15 +41,6 @@ pub struct ParseFault {
     pub kind: ParseFaultKind,
 }
 
-/// Why tokens gave no unit.
-#[derive(Clone, Copy)]
-pub enum ParseError {
-    /// The tokens are no unit: their first fault.
-    Fault(ParseFault),
-    /// Out of memory.
-    NoMemory,
-}
-
 impl ParseFault {
     /// The offset of the fault in bytes from the start of the text, which has `end` bytes.
     pub fn offset(&self, tokens: &[Token<'_>], end: usize) -> usize
@@ -63,40 +55,47 @@ impl ParseFault {
 }
 
 // The kind of the fault at the first of these tokens, or at the end.
-fn kind_of(fault: Fault, rest: &[Token<'_>]) -> ParseFaultKind
+fn kind_of(fault: SyntaxFault, rest: &[Token<'_>]) -> ParseFaultKind
     ensures { result ≡ reported (fault_of fault) (list_of rest.now) }
 {
     match fault {
-        Fault::LimitExceeded => ParseFaultKind::Depth,
-        Fault::Wrong(role) => fault_kind(role, rest),
+        SyntaxFault::LimitExceeded => ParseFaultKind::Depth,
+        SyntaxFault::Wrong(role) => fault_kind(role, rest),
     }
 }
 
 // The fault where the parser stopped, at the first of these tokens or at the end.
-fn fault_at(tokens: &[Token<'_>], rest: &[Token<'_>], stopped: Stopped) -> ParseError
+fn fault_at(
+    tokens: &[Token<'_>],
+    rest: &[Token<'_>],
+    stopped: Refusal<SyntaxFault>,
+) -> Refusal<ParseFault>
     requires { Gives (read_external_declarations (list_of tokens.now)) unit_of rest.now
         (Err stopped) }
     ensures { IsFaultOf (list_of tokens.now) result }
 {
     match stopped {
-        Stopped::NoMemory => ParseError::NoMemory,
-        Stopped::At(fault) => {
+        Refusal::NoMemory => Refusal::NoMemory,
+        Refusal::Fault(fault) => {
             let kind = kind_of(fault, rest);
             let token = tokens.len().saturating_sub(rest.len());
-            ParseError::Fault(ParseFault { token, kind })
+            Refusal::Fault(ParseFault { token, kind })
         }
     }
 }
 
 /// The unit that the tokens are; or their first fault, which is at the first token with which
 /// those so far begin no unit, or where the nesting limit is exceeded.
-pub fn parse<'t>(alloc: Global, tokens: &'t [Token<'t>]) -> Result<TranslationUnit<'t>, ParseError>
+pub fn parse<'t>(
+    alloc: Global,
+    tokens: &'t [Token<'t>],
+) -> Result<TranslationUnit<'t>, Refusal<ParseFault>>
     ensures found { IfOk result (λ unit. IsUnit (list_of tokens.now) (unit_of unit)) }
     ensures same { IfOk result (λ unit. (other : tree.TranslationUnit) → IsUnit (list_of tokens.now)
         other → other ≡ unit_of unit) }
     ensures fault { IfErr result (λ error. IsFaultOf (list_of tokens.now) error) }
     ensures only { IfErr result (λ error. (other : tree.TranslationUnit) → IsUnit
-        (list_of tokens.now) other → error ≡ ParseError.NoMemory) }
+        (list_of tokens.now) other → error ≡ Refusal.NoMemory) }
 {
     let mut left = Tokens {
         rest: tokens,

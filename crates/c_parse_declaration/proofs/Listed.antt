@@ -21,7 +21,8 @@ use Rattle.c_parse_laws.specs.Types as types
 use Rattle.c_parse_laws.specs.Declarations.{read_list_from, last_of}
 use Rattle.c_syntax.specs.Expressions as syntax
 use Rattle.c_token.specs.declared.Token.{Token}
-use Rattle.c_parse_token.specs.declared.outcome.Stopped.{Stopped}
+use Rattle.attempt.specs.declared.refusal.Refusal.{Refusal}
+use Rattle.c_parse_token.specs.declared.outcome.SyntaxFault.{SyntaxFault}
 use Rattle.c_parse_token.specs.Lists.{Gives}
 use Rattle.c_parse_token.proofs.Errors.{gives-from}
 use Rattle.c_parse_token.proofs.Steps.{begins-next}
@@ -115,7 +116,7 @@ pub pushed : {A X : Type 0} (view : A → X) (boxes all : List (Box A Global)) (
 pushed view boxes all one is =
     ap (λ xs. map view (map (λ b. b.value) xs)) is ∙ ap (map view) (map-append (λ b. b.value) boxes (one ∷ [])) ∙ map-append view (map (λ b. b.value) boxes) (one.value ∷ [])
 
-pub listing-item_error : {X Y C : Type 0} (s : Shape X Y C) (whole : Outcome Placed Role Y) (read : List X) (c : C) (offset : ℕ) (tokens middle : List Placed) (left : List Token) (error : Stopped) → Listing s whole read c tokens → next_is (is_mark punctuator.Comma) tokens ≡ true
+pub listing-item_error : {X Y C : Type 0} (s : Shape X Y C) (whole : Outcome Placed Role Y) (read : List X) (c : C) (offset : ℕ) (tokens middle : List Placed) (left : List Token) (error : Refusal SyntaxFault) → Listing s whole read c tokens → next_is (is_mark punctuator.Comma) tokens ≡ true
     → comma (s.role c) tokens ≡ Ok (offset, middle) → Gives (s.item c middle) (λ x. x) left (Err error) → Gives whole (λ x. x) left (Err error)
 unfolding Listing
 listing-item_error {X = X} {Y = Y} {C = C} s whole read c offset tokens middle left error going was mark =
@@ -127,7 +128,7 @@ listing-close : {X Y C : Type 0} (s : Shape X Y C) (whole : Outcome Placed Role 
 unfolding Listing
 listing-close {C = C} s whole read c tokens going ends = going-end going (begins-next (λ (_ : C). is_mark punctuator.Comma) c tokens ∙ ends)
 
-pub listing-unclosed : {X Y C : Type 0} (s : Shape X Y C) (whole : Outcome Placed Role Y) (read : List X) (c : C) (tokens : List Placed) (left : List Token) (error : Stopped) → Listing s whole read c tokens → next_is (is_mark punctuator.Comma) tokens ≡ false
+pub listing-unclosed : {X Y C : Type 0} (s : Shape X Y C) (whole : Outcome Placed Role Y) (read : List X) (c : C) (tokens : List Placed) (left : List Token) (error : Refusal SyntaxFault) → Listing s whole read c tokens → next_is (is_mark punctuator.Comma) tokens ≡ false
     → Gives (ending s c tokens) (λ x. x) left (Err error) → Gives whole (λ x. x) left (Err error)
 listing-unclosed {Y = Y} s whole read c tokens left error going ends =
     gives-from {X = ℕ} {Y = Y} (ending s c tokens) whole (λ x. x) (λ y. y) left error

@@ -26,11 +26,12 @@ ghost use Rattle.c_parse_spec.specs.Limits.{nesting_limit};
 
 use crate::statement::value;
 use crate::{Parsed, Scope};
+use attempt::Refusal;
 use c_parse_expression::{base, dimensions};
 use c_parse_spec::Role;
 use c_parse_token::class::begins_type;
 use c_parse_token::{
-    Fault, Stopped, Tokens, TypedefNames, allocated, attempt, pointer, type_specifier_head,
+    SyntaxFault, Tokens, TypedefNames, allocated, attempt, pointer, type_specifier_head,
 };
 use c_syntax::expression::{Declarator, Name, Specifiers, Storage, boxed};
 use c_syntax::simple::Value;
@@ -129,7 +130,7 @@ pub fn external_specifiers<'t>(
     alloc: Global,
     tokens: &mut Tokens<'t>,
     names: &TypedefNames<'t>,
-) -> Result<Box<Specifiers<'t>>, Stopped>
+) -> Result<Box<Specifiers<'t>>, Refusal<SyntaxFault>>
     ensures gives { Parses (read_external_specifiers (names_of names.now) (expressions names.now) 0)
         (λ x. specifiers_of x.value) tokens.old tokens.new result }
     ensures shorter { IfOk result (λ _. IsShorter tokens.new tokens.old) }
@@ -157,20 +158,20 @@ pub fn starts_locals<'t>(tokens: &Tokens<'t>, names: &TypedefNames<'t>) -> bool
 pub fn declared_name<'t>(
     tokens: &mut Tokens<'t>,
     names: &TypedefNames<'t>,
-) -> Result<Name<'t>, Stopped>
+) -> Result<Name<'t>, Refusal<SyntaxFault>>
     ensures gives { Parses (token DeclaredName (expected DeclaredName)
         (plain_name_at (names_of names.now))) name_of tokens.old tokens.new result }
     ensures shorter { IfOk result (λ _. TakesOne tokens.old tokens.new) }
     ensures fresh { IfOk result (λ x. is_typedef_name (names_of names.now) x.spelling.now ≡ false) }
 {
     let [first, rest @ ..] = tokens.rest else {
-        return Err(Stopped::At(Fault::Wrong(Role::DeclaredName)));
+        return Err(Refusal::Fault(SyntaxFault::Wrong(Role::DeclaredName)));
     };
     let Kind::Name(spelling) = first.kind else {
-        return Err(Stopped::At(Fault::Wrong(Role::DeclaredName)));
+        return Err(Refusal::Fault(SyntaxFault::Wrong(Role::DeclaredName)));
     };
     if names.contains(spelling) {
-        return Err(Stopped::At(Fault::Wrong(Role::DeclaredName)));
+        return Err(Refusal::Fault(SyntaxFault::Wrong(Role::DeclaredName)));
     }
     let offset = first.offset;
     tokens.rest = rest;
@@ -235,7 +236,7 @@ fn more_locals<'t>(
     tokens: &mut Tokens<'t>,
     first: Box<Local<'t>>,
     locals: &mut Vec<Box<Local<'t>>>,
-) -> Result<(), Stopped>
+) -> Result<(), Refusal<SyntaxFault>>
     requires depth { scope.depth ≤ nesting_limit }
     requires empty { locals.old.items ≡ [] }
     ensures gives { Parses (declarations.read_list_from declarations.end_of_local Semicolon

@@ -23,9 +23,10 @@ ghost use Rattle.c_parse_spec.specs.Limits.{nesting_limit};
 
 use crate::declaration::{declared_name, stored};
 use crate::{Parsed, Scope};
+use attempt::Refusal;
 use c_parse_expression::{dimensions, specifiers};
 use c_parse_spec::Role;
-use c_parse_token::{Stopped, Tokens, TypedefNames, allocated, attempt, consts, pointer};
+use c_parse_token::{SyntaxFault, Tokens, TypedefNames, allocated, attempt, consts, pointer};
 use c_syntax::expression::{Declarator, Dimensions, Name, Specifiers, TypeSpecifier, boxed};
 use c_syntax::unit::{FunctionDeclarator, Global as GlobalDeclarator, Parameter};
 use c_token::Kind;
@@ -55,7 +56,7 @@ fn take_void(tokens: &mut Tokens<'_>) -> Option<usize>
 fn optional_name<'t>(
     tokens: &mut Tokens<'t>,
     names: &TypedefNames<'t>,
-) -> Result<Option<Name<'t>>, Stopped>
+) -> Result<Option<Name<'t>>, Refusal<SyntaxFault>>
     ensures gives { Parses (parameters.read_optional_name (names_of names.now))
         (λ x. option_map name_of x) tokens.old tokens.new result }
     ensures shorter { IfOk result (λ _. IsNoLonger tokens.new tokens.old) }
@@ -146,7 +147,7 @@ fn more_parameters<'t>(
     tokens: &mut Tokens<'t>,
     first: Box<Parameter<'t>>,
     list: &mut Vec<Box<Parameter<'t>>>,
-) -> Result<(), Stopped>
+) -> Result<(), Refusal<SyntaxFault>>
     requires depth { scope.depth ≤ nesting_limit }
     requires empty { list.old.items ≡ [] }
     ensures gives { Parses (read_list_from parameters.end_of_parameter RightParenthesis
@@ -172,7 +173,7 @@ fn parameters<'t>(
     scope: Scope<'_, 't>,
     tokens: &mut Tokens<'t>,
     list: &mut Vec<Box<Parameter<'t>>>,
-) -> Result<(), Stopped>
+) -> Result<(), Refusal<SyntaxFault>>
     requires depth { scope.depth ≤ nesting_limit }
     requires empty { list.old.items ≡ [] }
     ensures gives { Parses (parameters.read_parameters (names_in scope.entry) (parsers_in
@@ -203,7 +204,7 @@ fn function<'t>(
     names: &TypedefNames<'t>,
     pointers: usize,
     name: Name<'t>,
-) -> Result<Box<GlobalDeclarator<'t>>, Stopped>
+) -> Result<Box<GlobalDeclarator<'t>>, Refusal<SyntaxFault>>
     ensures gives { Parses (read_function (names_of names.now) (expressions names.now) pointers
         (name_of name.entry)) (λ x. global_of x.value) tokens.old tokens.new result }
     ensures shorter { IfOk result (λ _. IsNoLonger tokens.new tokens.old) }
@@ -235,7 +236,7 @@ pub fn global<'t>(
     tokens: &mut Tokens<'t>,
     names: &TypedefNames<'t>,
     is_typedef: bool,
-) -> Result<Box<GlobalDeclarator<'t>>, Stopped>
+) -> Result<Box<GlobalDeclarator<'t>>, Refusal<SyntaxFault>>
     ensures gives { Parses (parameters.read_global (names_of names.now) (expressions names.now)
         is_typedef) (λ x. global_of x.value) tokens.old tokens.new result }
     ensures shorter { IfOk result (λ _. IsShorter tokens.new tokens.old) }

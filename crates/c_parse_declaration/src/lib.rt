@@ -11,7 +11,8 @@ mod declaration;
 mod item;
 mod statement;
 
-use c_parse_token::{Stopped, TypedefNames};
+use attempt::Refusal;
+use c_parse_token::{SyntaxFault, TypedefNames};
 pub use declaration::{external_specifiers, locals, starts_locals, value_end};
 pub use item::global;
 pub use statement::{simple, value};
@@ -29,4 +30,4 @@ pub struct Scope<'n, 't> {
 }
 
 /// What a parser of a part gives.
-pub type Parsed<T> = Result<Box<T>, Stopped>;
+pub type Parsed<T> = Result<Box<T>, Refusal<SyntaxFault>>;

@@ -17,9 +17,10 @@ ghost use Rattle.c_parse_declaration.specs.Parts.{parsers_in, read_arguments_fro
 ghost use Rattle.c_parse_spec.specs.Limits.{nesting_limit, operator_limit};
 
 use crate::{Parsed, Scope};
+use attempt::Refusal;
 use c_parse_expression::{any_unary, conditional, whole};
 use c_parse_spec::{OPERATOR_LIMIT, Role};
-use c_parse_token::{Fault, Stopped, Tokens, allocated, attempt};
+use c_parse_token::{SyntaxFault, Tokens, allocated, attempt};
 use c_syntax::expression::{Expression, Name, boxed};
 use c_syntax::simple::{Call, Simple, Value};
 use c_syntax_spec::{BinaryOperator, StepOperator};
@@ -74,7 +75,7 @@ fn starts_step(tokens: &Tokens<'_>) -> bool
 }
 
 // An operator with `=`, and its offset.
-fn assignment(tokens: &mut Tokens<'_>) -> Result<(BinaryOperator, usize), Stopped>
+fn assignment(tokens: &mut Tokens<'_>) -> Result<(BinaryOperator, usize), Refusal<SyntaxFault>>
     ensures gives { Parses (token Nothing (operates (suc tokens.old.count))
         (with_offset values.assign_operator)) (λ x. x) tokens.old tokens.new result }
     ensures shorter { IfOk result (λ _. TakesOne tokens.old tokens.new) }
@@ -82,13 +83,13 @@ fn assignment(tokens: &mut Tokens<'_>) -> Result<(BinaryOperator, usize), Stoppe
         (tokens.new.count ≤ operator_limit)) }
 {
     let [first, rest @ ..] = tokens.rest else {
-        return Err(Stopped::At(Fault::Wrong(Role::Nothing)));
+        return Err(Refusal::Fault(SyntaxFault::Wrong(Role::Nothing)));
     };
     let Some(operator) = assign_operator(first.kind) else {
-        return Err(Stopped::At(Fault::Wrong(Role::Nothing)));
+        return Err(Refusal::Fault(SyntaxFault::Wrong(Role::Nothing)));
     };
     if tokens.count >= OPERATOR_LIMIT {
-        return Err(Stopped::At(Fault::LimitExceeded));
+        return Err(Refusal::Fault(SyntaxFault::LimitExceeded));
     }
     tokens.rest = rest;
     tokens.count += 1;
@@ -96,7 +97,7 @@ fn assignment(tokens: &mut Tokens<'_>) -> Result<(BinaryOperator, usize), Stoppe
 }
 
 // `++` or `--`, and its offset.
-fn step(tokens: &mut Tokens<'_>) -> Result<(StepOperator, usize), Stopped>
+fn step(tokens: &mut Tokens<'_>) -> Result<(StepOperator, usize), Refusal<SyntaxFault>>
     ensures gives { Parses (token Nothing (operates (suc tokens.old.count))
         (with_offset values.step_operator)) (λ x. x) tokens.old tokens.new result }
     ensures shorter { IfOk result (λ _. TakesOne tokens.old tokens.new) }
@@ -104,13 +105,13 @@ fn step(tokens: &mut Tokens<'_>) -> Result<(StepOperator, usize), Stopped>
         (tokens.new.count ≤ operator_limit)) }
 {
     let [first, rest @ ..] = tokens.rest else {
-        return Err(Stopped::At(Fault::Wrong(Role::Nothing)));
+        return Err(Refusal::Fault(SyntaxFault::Wrong(Role::Nothing)));
     };
     let Some(operator) = step_operator(first.kind) else {
-        return Err(Stopped::At(Fault::Wrong(Role::Nothing)));
+        return Err(Refusal::Fault(SyntaxFault::Wrong(Role::Nothing)));
     };
     if tokens.count >= OPERATOR_LIMIT {
-        return Err(Stopped::At(Fault::LimitExceeded));
+        return Err(Refusal::Fault(SyntaxFault::LimitExceeded));
     }
     tokens.rest = rest;
     tokens.count += 1;
@@ -182,7 +183,7 @@ fn more_arguments<'t>(
     tokens: &mut Tokens<'t>,
     first: Box<Expression<'t>>,
     arguments: &mut Vec<Box<Expression<'t>>>,
-) -> Result<(), Stopped>
+) -> Result<(), Refusal<SyntaxFault>>
     requires depth { scope.depth ≤ nesting_limit }
     requires count { tokens.old.count ≤ operator_limit }
     requires empty { arguments.old.items ≡ [] }
@@ -313,7 +314,7 @@ fn step_after<'t>(
     alloc: Global,
     tokens: &mut Tokens<'t>,
     target: Box<Expression<'t>>,
-) -> Result<Box<Simple<'t>>, Stopped>
+) -> Result<Box<Simple<'t>>, Refusal<SyntaxFault>>
     requires counted { tokens.old.count ≡ operators (expression_of target.value) }
     ensures gives { Parses (values.read_step_after (expression_of target.entry.value))
         (λ x. simple_of x.value) tokens.old tokens.new result }

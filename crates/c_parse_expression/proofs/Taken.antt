@@ -4,13 +4,14 @@ use Rattle.c_token_spec.specs.Lexical.{Placed}
 use Rattle.c_token.specs.declared.Token.{Token}
 use Rattle.c_parse_spec.specs.declared.Role.{Role}
 use Rattle.exact_read.specs.Reading.{Fault, Outcome}
-use Rattle.c_parse_token.specs.declared.outcome.Stopped.{Stopped}
+use Rattle.attempt.specs.declared.refusal.Refusal.{Refusal}
+use Rattle.c_parse_token.specs.declared.outcome.SyntaxFault.{SyntaxFault}
 use Rattle.c_parse_token.specs.Lists.{Gives}
 use Rattle.c_parse_token.proofs.Errors.{gives-from}
 use Rattle.c_parse_expression.specs.Steps.{IsAdvanced}
 
 -- where a part stops, the whole does
-pub stops : {X Y A B : Type 0} (part : Outcome Placed Role A) (whole : Outcome Placed Role B) (v : X → A) (w : Y → B) (left : List Token) (error : Stopped) → Gives {X = X} part v left (Err error)
+pub stops : {X Y A B : Type 0} (part : Outcome Placed Role A) (whole : Outcome Placed Role B) (v : X → A) (w : Y → B) (left : List Token) (error : Refusal SyntaxFault) → Gives {X = X} part v left (Err error)
     → ((fault : Fault Role × List Placed) → part ≡ Err fault → whole ≡ Err fault) → Gives {X = Y} whole w left (Err error)
 stops {X = X} {Y = Y} part whole v w left error gives same = gives-from {X = X} {Y = Y} part whole v w left error same gives
 

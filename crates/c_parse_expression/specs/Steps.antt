@@ -27,7 +27,8 @@ use Rattle.c_syntax.specs.declared.expression.Specifiers.{Specifiers}
 use Rattle.c_syntax.specs.declared.expression.TypeName.{TypeName}
 use Rattle.c_syntax.specs.Expressions.{unboxed, expression_of, type_name_of, specifiers_of, type_specifier_of, member_of, declarator_of, dimensions_of, constant_of, constants_of}
 use Rattle.c_parse_token.specs.declared.names.TypedefNames.{TypedefNames}
-use Rattle.c_parse_token.specs.declared.outcome.Stopped.{Stopped}
+use Rattle.attempt.specs.declared.refusal.Refusal.{Refusal}
+use Rattle.c_parse_token.specs.declared.outcome.SyntaxFault.{SyntaxFault}
 use Rattle.c_parse_token.specs.Lists.{list_of, names_of, Gives, IsCounted, IsNoLonger}
 use Rattle.c_parse_token.specs.declared.tokens.Tokens.{Tokens}
 use Rattle.c_parse_expression.specs.declared.expression.Scope.{Scope}
@@ -58,11 +59,11 @@ pub record Took {X Y : Type 0} (outcome : Outcome Placed Role Y) (view : X → Y
   pub shorter : Shrinks new old
 
 -- the same, or the fault that the reference parser gives, or out of memory
-abbrev pub Given : {X Y : Type 0} → (outcome : Outcome Placed Role Y) → (view : X → Y) → (Moves : Y → ℕ → Type 0) → (Shrinks : Tokens → Tokens → Type 0) → (old new : Tokens) → Result X Stopped → Type 0
+abbrev pub Given : {X Y : Type 0} → (outcome : Outcome Placed Role Y) → (view : X → Y) → (Moves : Y → ℕ → Type 0) → (Shrinks : Tokens → Tokens → Type 0) → (old new : Tokens) → Result X (Refusal SyntaxFault) → Type 0
 Given outcome view Moves Shrinks old new (Ok x) = Took outcome view Moves Shrinks old new x
 Given {X = X} outcome view Moves Shrinks old new (Err stopped) = Gives {X = X} outcome view new.rest.now (Err stopped)
 
-abbrev pub Reads : {X Y : Type 0} → (reader : Parser Placed Role Y) → (view : X → Y) → (Moves : Y → ℕ → Type 0) → (Shrinks : Tokens → Tokens → Type 0) → (old new : Tokens) → Result X Stopped → Type 0
+abbrev pub Reads : {X Y : Type 0} → (reader : Parser Placed Role Y) → (view : X → Y) → (Moves : Y → ℕ → Type 0) → (Shrinks : Tokens → Tokens → Type 0) → (old new : Tokens) → Result X (Refusal SyntaxFault) → Type 0
 Reads reader view Moves Shrinks old new result = Given (reader (list_of old.rest.now)) view Moves Shrinks old new result
 
 -- no limit is exceeded yet
@@ -77,10 +78,10 @@ abbrev pub CountsAfter : (part : tree.Expression) → (before : ℕ) → tree.Ex
 CountsAfter part before x after = (after + operators part ≡ before + operators x) × (after ≤ operator_limit)
 
 -- an expression is read, and one that begins with a part that was read before
-abbrev pub ReadsExpression : (reader : Parser Placed Role tree.Expression) → (before : ℕ) → (old new : Tokens) → Result (Box Expression Global) Stopped → Type 0
+abbrev pub ReadsExpression : (reader : Parser Placed Role tree.Expression) → (before : ℕ) → (old new : Tokens) → Result (Box Expression Global) (Refusal SyntaxFault) → Type 0
 ReadsExpression reader before old new result = Reads reader tree_of (Counts operators before) IsNoLonger old new result
 
-abbrev pub ReadsAfter : (reader : Parser Placed Role tree.Expression) → (part : tree.Expression) → (Shrinks : Tokens → Tokens → Type 0) → (old new : Tokens) → Result (Box Expression Global) Stopped → Type 0
+abbrev pub ReadsAfter : (reader : Parser Placed Role tree.Expression) → (part : tree.Expression) → (Shrinks : Tokens → Tokens → Type 0) → (old new : Tokens) → Result (Box Expression Global) (Refusal SyntaxFault) → Type 0
 ReadsAfter reader part Shrinks old new result = Reads reader tree_of (CountsAfter part old.count) Shrinks old new result
 
 -- an expression and the punctuator that ends it
@@ -132,7 +133,7 @@ abbrev pub Advances : {Y : Type 0} → (operators_of : Y → ℕ) → (is_alone 
 Advances operators_of is_alone before y after = IsAdvanced is_alone before (operators_of y) after
 
 -- a part of a type is read
-abbrev pub ReadsPart : {X Y : Type 0} → (reader : Parsers → (depth : ℕ) → Counting → Parser Placed Role Y) → (view : X → Y) → (operators_of : Y → ℕ) → (Shrinks : Tokens → Tokens → Type 0) → Scope → (old new : Tokens) → Result X Stopped → Type 0
+abbrev pub ReadsPart : {X Y : Type 0} → (reader : Parsers → (depth : ℕ) → Counting → Parser Placed Role Y) → (view : X → Y) → (operators_of : Y → ℕ) → (Shrinks : Tokens → Tokens → Type 0) → Scope → (old new : Tokens) → Result X (Refusal SyntaxFault) → Type 0
 ReadsPart reader view operators_of Shrinks scope old new result = Reads (type_in reader scope old) view (Advances operators_of scope.is_alone old.count) Shrinks old new result
 
 -- the trees of parts of types, and of lists of them

@@ -13,8 +13,9 @@ ghost use Rattle.c_parse_spec.specs.Limits.{nesting_limit, operator_limit};
 
 use crate::operand::{atom, member as member_access};
 use crate::specifier::type_name;
+use attempt::Refusal;
 use c_parse_spec::Role;
-use c_parse_token::{Fault, Stopped, Tokens, TypedefNames, allocated, attempt};
+use c_parse_token::{SyntaxFault, Tokens, TypedefNames, allocated, attempt};
 use c_syntax::expression::{Expression, TypeName};
 use c_token_spec::token::Punctuator;
 use std::alloc::Global;
@@ -35,7 +36,7 @@ pub struct Scope<'n, 't> {
 }
 
 /// What a parser of a part gives.
-pub type Parsed<T> = Result<Box<T>, Stopped>;
+pub type Parsed<T> = Result<Box<T>, Refusal<SyntaxFault>>;
 
 // A conditional expression (6.5.15).
 #[cycle(parser)]
@@ -45,7 +46,7 @@ pub fn conditional<'t>(scope: Scope<'_, 't>, tokens: &mut Tokens<'t>) -> Parsed<
         tokens.old.count tokens.old tokens.new result }
 {
     if scope.fuel == 0 {
-        return Err(Stopped::At(Fault::LimitExceeded));
+        return Err(Refusal::Fault(SyntaxFault::LimitExceeded));
     }
     let left = Scope {
         fuel: scope.fuel - 1,
@@ -169,7 +170,7 @@ fn cast<'t>(scope: Scope<'_, 't>, tokens: &mut Tokens<'t>) -> Parsed<Expression<
         tokens.old.count tokens.old tokens.new result }
 {
     if scope.fuel == 0 {
-        return Err(Stopped::At(Fault::LimitExceeded));
+        return Err(Refusal::Fault(SyntaxFault::LimitExceeded));
     }
     let left = Scope {
         fuel: scope.fuel - 1,
@@ -322,7 +323,7 @@ pub fn unary<'t>(scope: Scope<'_, 't>, tokens: &mut Tokens<'t>) -> Parsed<Expres
         tokens.old.count tokens.old tokens.new result }
 {
     if scope.fuel == 0 {
-        return Err(Stopped::At(Fault::LimitExceeded));
+        return Err(Refusal::Fault(SyntaxFault::LimitExceeded));
     }
     let left = Scope {
         fuel: scope.fuel - 1,

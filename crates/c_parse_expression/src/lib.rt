@@ -21,8 +21,9 @@ ghost use Rattle.c_parse_expression.specs.Whole.{expressions, read_any_unary};
 ghost use Rattle.c_parse_spec.specs.Limits.{nesting_limit, operator_limit, expression_fuel};
 
 use crate::expression::Scope;
+use attempt::Refusal;
 use c_parse_spec::EXPRESSION_FUEL;
-use c_parse_token::{Head, Stopped, Tokens, TypedefNames, attempt};
+use c_parse_token::{Head, SyntaxFault, Tokens, TypedefNames, attempt};
 use c_syntax::expression::{Dimensions, Expression, Specifiers, TypeSpecifier};
 use c_token_spec::token::Punctuator;
 use std::alloc::Global;
@@ -48,7 +49,7 @@ pub fn conditional<'t>(
     tokens: &mut Tokens<'t>,
     names: &TypedefNames<'t>,
     depth: usize,
-) -> Result<Box<Expression<'t>>, Stopped>
+) -> Result<Box<Expression<'t>>, Refusal<SyntaxFault>>
     requires depth { depth ≤ nesting_limit }
     requires count { tokens.old.count ≤ operator_limit }
     ensures gives { Parses ((expressions names.now).conditional depth tokens.old.count)
@@ -66,7 +67,7 @@ pub fn whole<'t>(
     tokens: &mut Tokens<'t>,
     names: &TypedefNames<'t>,
     depth: usize,
-) -> Result<Box<Expression<'t>>, Stopped>
+) -> Result<Box<Expression<'t>>, Refusal<SyntaxFault>>
     requires depth { depth ≤ nesting_limit }
     ensures gives { Parses ((expressions names.now).conditional depth 0)
         (λ x. expression_of x.value) tokens.old tokens.new result }
@@ -84,7 +85,7 @@ pub fn any_unary<'t>(
     tokens: &mut Tokens<'t>,
     names: &TypedefNames<'t>,
     depth: usize,
-) -> Result<Box<Expression<'t>>, Stopped>
+) -> Result<Box<Expression<'t>>, Refusal<SyntaxFault>>
     requires depth { depth ≤ nesting_limit }
     requires count { tokens.old.count ≤ operator_limit }
     ensures gives { Parses (read_any_unary (expressions names.now) depth tokens.old.count)
@@ -107,7 +108,7 @@ pub fn specifiers<'t>(
     tokens: &mut Tokens<'t>,
     names: &TypedefNames<'t>,
     depth: usize,
-) -> Result<Box<Specifiers<'t>>, Stopped>
+) -> Result<Box<Specifiers<'t>>, Refusal<SyntaxFault>>
     requires depth { depth ≤ nesting_limit }
     ensures gives { Parses ((expressions names.now).specifiers depth Alone)
         (λ x. specifiers_of x.value) tokens.old tokens.new result }
@@ -128,7 +129,7 @@ pub fn base<'t>(
     names: &TypedefNames<'t>,
     depth: usize,
     head: Head<'t>,
-) -> Result<Box<TypeSpecifier<'t>>, Stopped>
+) -> Result<Box<TypeSpecifier<'t>>, Refusal<SyntaxFault>>
     requires depth { depth ≤ nesting_limit }
     ensures gives { Parses (types.read_type_specifier_rest (names_of names.now) (expressions
         names.now) depth Alone (head_of head.entry)) (λ x. type_specifier_of x.value) tokens.old
@@ -149,7 +150,7 @@ pub fn dimensions<'t>(
     tokens: &mut Tokens<'t>,
     names: &TypedefNames<'t>,
     depth: usize,
-) -> Result<Box<Dimensions<'t>>, Stopped>
+) -> Result<Box<Dimensions<'t>>, Refusal<SyntaxFault>>
     requires depth { depth ≤ nesting_limit }
     ensures gives { Parses (types.read_dimensions (expressions names.now) depth Alone)
         (λ x. dimensions_of x.value) tokens.old tokens.new result }

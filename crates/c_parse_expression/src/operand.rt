@@ -11,8 +11,9 @@ ghost use Rattle.c_parse_expression.specs.Steps.{tree_of, read_member_after, cou
 ghost use Rattle.c_parse_expression.specs.Steps.{ReadsAfter};
 ghost use Rattle.c_parse_spec.specs.Limits.{operator_limit};
 
+use attempt::Refusal;
 use c_parse_spec::Role;
-use c_parse_token::{Fault, Stopped, Tokens, TypedefNames, allocated, attempt};
+use c_parse_token::{SyntaxFault, Tokens, TypedefNames, allocated, attempt};
 use c_syntax::expression::{Expression, Name};
 use c_token::Kind;
 use std::alloc::Global;
@@ -22,7 +23,7 @@ pub fn atom<'t>(
     alloc: Global,
     tokens: &mut Tokens<'t>,
     names: &TypedefNames<'t>,
-) -> Result<Box<Expression<'t>>, Stopped>
+) -> Result<Box<Expression<'t>>, Refusal<SyntaxFault>>
     ensures gives { Parses (token Nothing plain (atom_at (names_of names.now))) tree_of tokens.old
         tokens.new result }
     ensures counted { IfOk result (λ x. (operators (tree_of x) ≡ 0) ×
@@ -30,7 +31,7 @@ pub fn atom<'t>(
     ensures shorter { IfOk result (λ _. IsShorter tokens.new tokens.old) }
 {
     let [first, rest @ ..] = tokens.rest else {
-        return Err(Stopped::At(Fault::Wrong(Role::Nothing)));
+        return Err(Refusal::Fault(SyntaxFault::Wrong(Role::Nothing)));
     };
     let offset = first.offset;
     let x = match first.kind {
@@ -39,7 +40,7 @@ pub fn atom<'t>(
         }
         Kind::Number(value, of) => allocated!(Expression::number(alloc, value, of, offset)),
         Kind::Character(value) => allocated!(Expression::character(alloc, value, offset)),
-        _ => return Err(Stopped::At(Fault::Wrong(Role::Nothing))),
+        _ => return Err(Refusal::Fault(SyntaxFault::Wrong(Role::Nothing))),
     };
     tokens.rest = rest;
     Ok(x)
@@ -50,7 +51,7 @@ pub fn member<'t>(
     alloc: Global,
     tokens: &mut Tokens<'t>,
     base: Box<Expression<'t>>,
-) -> Result<Box<Expression<'t>>, Stopped>
+) -> Result<Box<Expression<'t>>, Refusal<SyntaxFault>>
     requires count { tokens.old.count ≤ operator_limit }
     ensures { ReadsAfter (read_member_after tokens.old.count (tree_of base.entry)) (tree_of
         base.entry) IsShorter tokens.old tokens.new result }

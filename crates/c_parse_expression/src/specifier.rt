@@ -23,9 +23,10 @@ ghost use Rattle.c_parse_spec.specs.Limits.{nesting_limit, operator_limit};
 use crate::ends::{constant_end, member_end};
 use crate::expression::{Parsed, Scope, conditional, ended};
 use crate::operand::begin_whole;
+use attempt::Refusal;
 use c_parse_spec::Role;
 use c_parse_token::{
-    Fault, Head, Stopped, Tokens, allocated, attempt, consts, integer_type, pointer,
+    Head, SyntaxFault, Tokens, allocated, attempt, consts, integer_type, pointer,
     type_specifier_head,
 };
 use c_syntax::expression::{
@@ -34,7 +35,7 @@ use c_syntax::expression::{
 };
 use c_token_spec::token::Punctuator;
 
-type Rows<T> = Result<Vec<Box<T>>, Stopped>;
+type Rows<T> = Result<Vec<Box<T>>, Refusal<SyntaxFault>>;
 
 // No storage-class words.
 const NO_STORAGE: Storage = Storage {
@@ -50,7 +51,7 @@ pub fn type_name<'t>(scope: Scope<'_, 't>, tokens: &mut Tokens<'t>) -> Parsed<Ty
         scope.entry tokens.old tokens.new result }
 {
     if scope.fuel == 0 {
-        return Err(Stopped::At(Fault::LimitExceeded));
+        return Err(Refusal::Fault(SyntaxFault::LimitExceeded));
     }
     let left = Scope {
         fuel: scope.fuel - 1,
@@ -79,7 +80,7 @@ pub fn specifiers<'t>(scope: Scope<'_, 't>, tokens: &mut Tokens<'t>) -> Parsed<S
         IsNoLonger scope.entry tokens.old tokens.new result }
 {
     if scope.fuel == 0 {
-        return Err(Stopped::At(Fault::LimitExceeded));
+        return Err(Refusal::Fault(SyntaxFault::LimitExceeded));
     }
     let left = Scope {
         fuel: scope.fuel - 1,
@@ -397,7 +398,7 @@ fn more_constants<'t>(
     before: usize,
     rows: &mut Vec<Box<Constant<'t>>>,
     end: Role,
-) -> Result<Role, Stopped>
+) -> Result<Role, Refusal<SyntaxFault>>
     requires fits { Fits scope tokens.old }
     requires before { grammar.advance (counting_of scope.is_alone before)
         (grammar.operators_of_constants (constants_in rows.old)) ≡ counting_of scope.is_alone

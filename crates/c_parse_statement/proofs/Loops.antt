@@ -19,8 +19,9 @@ use Rattle.c_parse_laws.specs.Statements as statements
 use Rattle.c_parse_laws.specs.Statements.{collect, before_part, Element, ElementLabel, ElementPart}
 use Rattle.c_syntax.specs.declared.statement.Part.{Part}
 use Rattle.c_syntax.specs.Statements.{Piece, Declares, States, part_of, parts_of, parts_in, groups_of}
-use Rattle.c_parse_token.specs.declared.outcome.Stopped.{Stopped}
-use Rattle.c_parse_token.specs.declared.outcome.Stopped.TheVariants.{NoMemory, At}
+use Rattle.attempt.specs.declared.refusal.Refusal.{Refusal}
+use Rattle.attempt.specs.declared.refusal.Refusal.TheVariants as refusal
+use Rattle.c_parse_token.specs.declared.outcome.SyntaxFault.{SyntaxFault}
 use Rattle.c_parse_token.specs.Lists.{list_of, fault_of, Gives}
 use Rattle.c_parse_token.proofs.Steps.{begins-next}
 use Rattle.c_parse_statement.specs.Pieces.{read_of, starts_part, taken_labels, taken_parts}
@@ -42,12 +43,12 @@ pub parts-same : (parts : List Part) → statements.parts_of (map (λ p. read_of
 parts-same [] = refl
 parts-same (part ∷ parts) = ap (statements.with_part (read_of (part_of part))) (parts-same parts) ∙ with_same (part_of part) (map part_of parts)
 
-pub parts-gives : (names : List (List ℕ)) (inner : Parsers) (inside : statements.Statements) (depth : ℕ) (old left : List TokenRow) (result : Result (Vec Part Global) Stopped) → Runs starts_part (statements.read_part names inner inside depth) taken_parts old left result → Gives (statements.read_parts names inner inside depth (list_of old)) parts_in left result
+pub parts-gives : (names : List (List ℕ)) (inner : Parsers) (inside : statements.Statements) (depth : ℕ) (old left : List TokenRow) (result : Result (Vec Part Global) (Refusal SyntaxFault)) → Runs starts_part (statements.read_part names inner inside depth) taken_parts old left result → Gives (statements.read_parts names inner inside depth (list_of old)) parts_in left result
 parts-gives names inner inside depth old left (Ok parts) h =
     going-end (going-run starts_part (statements.read_part names inner inside depth) _ _ (list_of old) (list_of left) (taken_parts parts) going-start h.0) (begins-next (λ (_ : Unit {0}). starts_part) (tt {0}) (list_of left) ∙ h.1)
     ∙ ap (λ xs. Ok (statements.parts_of xs, list_of left)) (append-nil (taken_parts parts)) ∙ ap (λ t. Ok (t, list_of left)) (parts-same parts.items)
-parts-gives names inner inside depth old left (Err NoMemory) h = tt {0}
-parts-gives names inner inside depth old left (Err (At fault)) h =
+parts-gives names inner inside depth old left (Err refusal.NoMemory) h = tt {0}
+parts-gives names inner inside depth old left (Err (refusal.Fault fault)) h =
     going-fault (going-run starts_part (statements.read_part names inner inside depth) _ _ (list_of old) h.1 h.0 going-start h.2) (begins-next (λ (_ : Unit {0}). starts_part) (tt {0}) h.1 ∙ h.3) (fault_of fault, list_of left) h.4
 
 -- labels and parts of a `switch`
@@ -209,12 +210,12 @@ groups-end names inner inside depth whole read tokens groups quiet =
     going-end groups.going (ends groups.had_label tokens groups.over quiet) ∙ ap (λ g. Ok (g, tokens)) (groups.is [] (tt {0}) ∙ before-alone read)
 
 -- labels, or parts, that stop
-pub labels-failed : {B : Type 0} (names : List (List ℕ)) (inner : Parsers) (inside : statements.Statements) (depth : ℕ) (whole : Outcome Placed Role unit.Groups) (seen : B → unit.Groups) (read : List (List unit.Label × unit.Parts)) (old left : List TokenRow) (error : Stopped) → Groups names inner inside depth whole read (list_of old)
+pub labels-failed : {B : Type 0} (names : List (List ℕ)) (inner : Parsers) (inside : statements.Statements) (depth : ℕ) (whole : Outcome Placed Role unit.Groups) (seen : B → unit.Groups) (read : List (List unit.Label × unit.Parts)) (old left : List TokenRow) (error : Refusal SyntaxFault) → Groups names inner inside depth whole read (list_of old)
     → Runs statements.begins_label (statements.read_label inner depth) taken_labels old left (Err error) → Gives {X = B} whole seen left (Err error)
-labels-failed names inner inside depth whole seen read old left NoMemory groups runs = tt {0}
-labels-failed names inner inside depth whole seen read old left (At fault) groups runs = groups-label_fault names inner inside depth whole read (list_of old) runs.1 runs.0 (fault_of fault, list_of left) groups runs.2 runs.3 runs.4
+labels-failed names inner inside depth whole seen read old left refusal.NoMemory groups runs = tt {0}
+labels-failed names inner inside depth whole seen read old left (refusal.Fault fault) groups runs = groups-label_fault names inner inside depth whole read (list_of old) runs.1 runs.0 (fault_of fault, list_of left) groups runs.2 runs.3 runs.4
 
-pub parts-failed : {B : Type 0} (names : List (List ℕ)) (inner : Parsers) (inside : statements.Statements) (depth : ℕ) (whole : Outcome Placed Role unit.Groups) (seen : B → unit.Groups) (read : List (List unit.Label × unit.Parts)) (tokens : List Placed) (labels : List unit.Label) (old left : List TokenRow) (error : Stopped) → Groups names inner inside depth whole read tokens
+pub parts-failed : {B : Type 0} (names : List (List ℕ)) (inner : Parsers) (inside : statements.Statements) (depth : ℕ) (whole : Outcome Placed Role unit.Groups) (seen : B → unit.Groups) (read : List (List unit.Label × unit.Parts)) (tokens : List Placed) (labels : List unit.Label) (old left : List TokenRow) (error : Refusal SyntaxFault) → Groups names inner inside depth whole read tokens
     → next_is statements.begins_label tokens ≡ true → Run statements.begins_label (statements.read_label inner depth) tokens labels (list_of old) → next_is statements.begins_label (list_of old) ≡ false → Runs starts_part (statements.read_part names inner inside depth) taken_parts old left (Err error) → Gives {X = B} whole seen left (Err error)
-parts-failed names inner inside depth whole seen read tokens labels old left NoMemory groups was labelled quiet runs = tt {0}
-parts-failed names inner inside depth whole seen read tokens labels old left (At fault) groups was labelled quiet runs = groups-part_fault names inner inside depth whole read tokens (list_of old) runs.1 labels runs.0 (fault_of fault, list_of left) groups was labelled quiet runs.2 runs.3 runs.4
+parts-failed names inner inside depth whole seen read tokens labels old left refusal.NoMemory groups was labelled quiet runs = tt {0}
+parts-failed names inner inside depth whole seen read tokens labels old left (refusal.Fault fault) groups was labelled quiet runs = groups-part_fault names inner inside depth whole read tokens (list_of old) runs.1 labels runs.0 (fault_of fault, list_of left) groups was labelled quiet runs.2 runs.3 runs.4

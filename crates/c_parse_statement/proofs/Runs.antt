@@ -7,8 +7,9 @@ use Rattle.c_token.specs.Pieces.{placed_of}
 use Rattle.c_parse_spec.specs.declared.Role.{Role}
 use Rattle.exact_read.specs.Reading.{Parser}
 use Rattle.c_parse_laws.specs.Parsers.{next_is}
-use Rattle.c_parse_token.specs.declared.outcome.Stopped.{Stopped}
-use Rattle.c_parse_token.specs.declared.outcome.Stopped.TheVariants.{NoMemory, At}
+use Rattle.attempt.specs.declared.refusal.Refusal.{Refusal}
+use Rattle.attempt.specs.declared.refusal.Refusal.TheVariants.{Fault, NoMemory}
+use Rattle.c_parse_token.specs.declared.outcome.SyntaxFault.{SyntaxFault}
 use Rattle.c_parse_token.specs.Lists.{list_of, Gives}
 use Rattle.c_parse_statement.specs.Runs.{Run, none, more, Runs}
 
@@ -18,10 +19,10 @@ run-last starts item tokens middle rest xs x (none t) b e l = more middle rest r
 run-last starts item tokens middle rest xs x (more t m r y ys b0 e0 l0 run) b e l = more t m rest y (ys ++ x ∷ []) b0 e0 l0 (run-last starts item m middle rest ys x run b e l)
 
 -- the item after a run has a fault
-pub run-fault : {A B X : Type 0} (starts : Token → Bool) (item : Parser Placed Role X) (view : A → List X) (seen : B → X) (old left : List TokenRow) (middle : List Placed) (xs : List X) (error : Stopped) → Run starts item (list_of old) xs middle → next_is starts middle ≡ true → Gives {X = B} (item middle) seen left (Err error)
+pub run-fault : {A B X : Type 0} (starts : Token → Bool) (item : Parser Placed Role X) (view : A → List X) (seen : B → X) (old left : List TokenRow) (middle : List Placed) (xs : List X) (error : Refusal SyntaxFault) → Run starts item (list_of old) xs middle → next_is starts middle ≡ true → Gives {X = B} (item middle) seen left (Err error)
     → Runs {A = A} starts item view old left (Err error)
 run-fault starts item view seen old left middle xs NoMemory run b gives = tt {0}
-run-fault starts item view seen old left middle xs (At fault) run b gives = (xs, middle, run, b, gives)
+run-fault starts item view seen old left middle xs (Fault fault) run b gives = (xs, middle, run, b, gives)
 
 -- a run takes tokens, where an item begins before it and none after it
 not_longer : {X : Type 0} (starts : Token → Bool) (item : Parser Placed Role X) (tokens rest : List Placed) (xs : List X) → Run starts item tokens xs rest → length rest < suc (length tokens)

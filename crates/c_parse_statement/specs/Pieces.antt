@@ -21,8 +21,9 @@ use Rattle.c_syntax.specs.declared.statement.Part.{Part}
 use Rattle.c_syntax.specs.Locals.{label_of}
 use Rattle.c_syntax.specs.Statements.{Piece, Declares, States, part_of}
 use Rattle.c_parse_token.specs.declared.names.TypedefNames.{TypedefNames}
-use Rattle.c_parse_token.specs.declared.outcome.Stopped.{Stopped}
-use Rattle.c_parse_token.specs.declared.outcome.Stopped.TheVariants.{NoMemory}
+use Rattle.attempt.specs.declared.refusal.Refusal.{Refusal}
+use Rattle.attempt.specs.declared.refusal.Refusal.TheVariants.{NoMemory}
+use Rattle.c_parse_token.specs.declared.outcome.SyntaxFault.{SyntaxFault}
 use Rattle.c_parse_token.specs.Lists.{names_of}
 use Rattle.c_parse_expression.specs.Whole.{expressions}
 use Rattle.c_parse_declaration.specs.declared.Scope.{Scope}
@@ -70,6 +71,6 @@ abbrev pub read_start_simple : Parsers → (depth : ℕ) → Parser Placed Role 
 read_start_simple inner depth = read_map (λ made. unit.StartsSimple made.0) (read_then (read_simple inner depth) (λ x. token (simple_end x) (expected (simple_end x)) (mark_offset punctuator.Semicolon)))
 
 -- what was made, or out of memory
-abbrev pub kept : {X E : Type 0} → Result X E → Result X Stopped
+abbrev pub kept : {X E : Type 0} → Result X E → Result X (Refusal SyntaxFault)
 kept (Ok x) = Ok x
 kept (Err error) = Err NoMemory

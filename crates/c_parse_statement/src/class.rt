@@ -10,9 +10,10 @@ ghost use Rattle.c_parse_statement.specs.Pieces.{starts_part};
 ghost use Rattle.c_token.specs.Pieces.{token_of};
 ghost use Rattle.c_parse_spec.specs.Limits.{nesting_limit};
 
+use attempt::Refusal;
 use c_parse_spec::{NESTING_LIMIT, Role};
 use c_parse_token::class::is_mark;
-use c_parse_token::{Fault, Stopped, Tokens};
+use c_parse_token::{SyntaxFault, Tokens};
 use c_token::Kind;
 use c_token_spec::token::{Keyword, Punctuator};
 
@@ -62,7 +63,7 @@ pub fn starts_label(tokens: &Tokens<'_>) -> bool
 }
 
 /// A keyword: its offset.
-pub fn keyword(tokens: &mut Tokens<'_>, wanted: Keyword) -> Result<usize, Stopped>
+pub fn keyword(tokens: &mut Tokens<'_>, wanted: Keyword) -> Result<usize, Refusal<SyntaxFault>>
     ensures gives { Parses (token Nothing plain (statements.keyword_offset wanted)) (λ x. x)
         tokens.old tokens.new result }
     ensures shorter { IfOk result (λ _. TakesOne tokens.old tokens.new) }
@@ -72,12 +73,16 @@ pub fn keyword(tokens: &mut Tokens<'_>, wanted: Keyword) -> Result<usize, Stoppe
             tokens.rest = rest;
             Ok(first.offset)
         }
-        _ => Err(Stopped::At(Fault::Wrong(Role::Nothing))),
+        _ => Err(Refusal::Fault(SyntaxFault::Wrong(Role::Nothing))),
     }
 }
 
 /// A keyword with which a construct more is open: its offset.
-pub fn opening(tokens: &mut Tokens<'_>, wanted: Keyword, depth: usize) -> Result<usize, Stopped>
+pub fn opening(
+    tokens: &mut Tokens<'_>,
+    wanted: Keyword,
+    depth: usize,
+) -> Result<usize, Refusal<SyntaxFault>>
     ensures gives { Parses (token Nothing (opens (suc depth)) (statements.keyword_offset wanted))
         (λ x. x) tokens.old tokens.new result }
     ensures within { IfOk result (λ _. depth < nesting_limit) }
@@ -86,11 +91,11 @@ pub fn opening(tokens: &mut Tokens<'_>, wanted: Keyword, depth: usize) -> Result
     match tokens.rest {
         [first, rest @ ..] if is_keyword(first.kind, wanted) => {
             if NESTING_LIMIT <= depth {
-                return Err(Stopped::At(Fault::LimitExceeded));
+                return Err(Refusal::Fault(SyntaxFault::LimitExceeded));
             }
             tokens.rest = rest;
             Ok(first.offset)
         }
-        _ => Err(Stopped::At(Fault::Wrong(Role::Nothing))),
+        _ => Err(Refusal::Fault(SyntaxFault::Wrong(Role::Nothing))),
     }
 }

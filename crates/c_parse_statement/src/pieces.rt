@@ -20,10 +20,11 @@ ghost use Rattle.c_parse_spec.specs.Limits.{nesting_limit};
 
 use crate::class::{keyword, next_keyword, starts_label};
 use crate::ends::{simple_end, statement_end};
+use attempt::Refusal;
 use c_parse_declaration::{Parsed, Scope, locals, simple, starts_locals, value, value_end};
 use c_parse_expression::whole;
 use c_parse_spec::Role;
-use c_parse_token::{Stopped, Tokens, allocated, attempt};
+use c_parse_token::{SyntaxFault, Tokens, allocated, attempt};
 use c_syntax::expression::{Expression, boxed};
 use c_syntax::simple::Simple;
 use c_syntax::statement::{ForStart, Label, Statement};
@@ -78,7 +79,7 @@ pub fn for_start<'t>(scope: Scope<'_, 't>, tokens: &mut Tokens<'t>) -> Parsed<Fo
 pub fn for_test<'t>(
     scope: Scope<'_, 't>,
     tokens: &mut Tokens<'t>,
-) -> Result<Option<Box<Expression<'t>>>, Stopped>
+) -> Result<Option<Box<Expression<'t>>>, Refusal<SyntaxFault>>
     requires depth { scope.depth ≤ nesting_limit }
     ensures gives { Parses (statements.read_for_test (parsers_in scope.entry) scope.entry.depth)
         (λ x. option_map (λ test. expression_of test.value) x) tokens.old tokens.new result }
@@ -97,7 +98,7 @@ pub fn for_test<'t>(
 pub fn for_step<'t>(
     scope: Scope<'_, 't>,
     tokens: &mut Tokens<'t>,
-) -> Result<Option<Box<Simple<'t>>>, Stopped>
+) -> Result<Option<Box<Simple<'t>>>, Refusal<SyntaxFault>>
     requires depth { scope.depth ≤ nesting_limit }
     ensures gives { Parses (statements.read_for_step (parsers_in scope.entry) scope.entry.depth)
         (λ x. option_map (λ step. simple_of step.value) x) tokens.old tokens.new result }
@@ -114,7 +115,10 @@ pub fn for_step<'t>(
 }
 
 // A label of a `switch`.
-fn label<'t>(scope: Scope<'_, 't>, tokens: &mut Tokens<'t>) -> Result<Label<'t>, Stopped>
+fn label<'t>(
+    scope: Scope<'_, 't>,
+    tokens: &mut Tokens<'t>,
+) -> Result<Label<'t>, Refusal<SyntaxFault>>
     requires depth { scope.depth ≤ nesting_limit }
     ensures gives { Parses (statements.read_label (parsers_in scope.entry) scope.entry.depth)
         label_of tokens.old tokens.new result }
@@ -132,7 +136,10 @@ fn label<'t>(scope: Scope<'_, 't>, tokens: &mut Tokens<'t>) -> Result<Label<'t>,
 }
 
 /// Labels, as long as one is next.
-pub fn labels<'t>(scope: Scope<'_, 't>, tokens: &mut Tokens<'t>) -> Result<Vec<Label<'t>>, Stopped>
+pub fn labels<'t>(
+    scope: Scope<'_, 't>,
+    tokens: &mut Tokens<'t>,
+) -> Result<Vec<Label<'t>>, Refusal<SyntaxFault>>
     requires depth { scope.depth ≤ nesting_limit }
     ensures runs { Runs statements.begins_label (statements.read_label (parsers_in scope.entry)
         scope.entry.depth) taken_labels tokens.old.rest.now tokens.new.rest.now result }
@@ -151,12 +158,12 @@ pub fn or_no_memory<'t>(made: Result<Box<Statement<'t>>, AllocError>) -> Parsed<
 {
     match made {
         Ok(statement) => Ok(statement),
-        Err(_) => Err(Stopped::NoMemory),
+        Err(_) => Err(Refusal::NoMemory),
     }
 }
 
 // A keyword and its `;`: the keyword's offset.
-fn jump(tokens: &mut Tokens<'_>, word: Keyword) -> Result<usize, Stopped>
+fn jump(tokens: &mut Tokens<'_>, word: Keyword) -> Result<usize, Refusal<SyntaxFault>>
     ensures gives { Parses (before (token Nothing plain (statements.keyword_offset word)) (token
         Nothing plain (mark_offset punctuator.Semicolon))) (λ x. x) tokens.old tokens.new result }
     ensures shorter { IfOk result (λ _. IsShorter tokens.new tokens.old) }

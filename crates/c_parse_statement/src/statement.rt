@@ -14,16 +14,21 @@ ghost use Rattle.c_parse_spec.specs.Limits.{nesting_limit, statement_fuel};
 use crate::class::{keyword, next_keyword, opening, starts_label, starts_part};
 use crate::ends::takes_else;
 use crate::pieces::{for_start, for_step, for_test, labels, or_no_memory, plain_statement, test};
+use attempt::Refusal;
 use c_parse_declaration::{Parsed, Scope, locals, starts_locals};
 use c_parse_spec::{Role, STATEMENT_FUEL};
-use c_parse_token::{Fault, Stopped, Tokens, allocated, attempt};
+use c_parse_token::{SyntaxFault, Tokens, allocated, attempt};
 use c_syntax::expression::Expression;
 use c_syntax::statement::{Group, Part, Statement};
 use c_token_spec::token::{Keyword, Punctuator};
 
 // A declaration or a statement.
 #[cycle(statements)]
-fn part<'t>(scope: Scope<'_, 't>, tokens: &mut Tokens<'t>, fuel: usize) -> Result<Part<'t>, Stopped>
+fn part<'t>(
+    scope: Scope<'_, 't>,
+    tokens: &mut Tokens<'t>,
+    fuel: usize,
+) -> Result<Part<'t>, Refusal<SyntaxFault>>
     requires depth { scope.depth ≤ nesting_limit }
     ensures gives { Parses (statements.read_part (names_in scope.entry) (parsers_in scope.entry)
         (statements_in scope.entry fuel) scope.entry.depth) (λ x. read_of (part_of x)) tokens.old
@@ -44,7 +49,7 @@ fn all_parts<'t>(
     scope: Scope<'_, 't>,
     tokens: &mut Tokens<'t>,
     fuel: usize,
-) -> Result<Vec<Part<'t>>, Stopped>
+) -> Result<Vec<Part<'t>>, Refusal<SyntaxFault>>
     requires depth { scope.depth ≤ nesting_limit }
     ensures gives { Parses (statements.read_parts (names_in scope.entry) (parsers_in scope.entry)
         (statements_in scope.entry fuel) scope.entry.depth) parts_in tokens.old tokens.new result }
@@ -213,7 +218,7 @@ fn groups<'t>(
     scope: Scope<'_, 't>,
     tokens: &mut Tokens<'t>,
     fuel: usize,
-) -> Result<Vec<Box<Group<'t>>>, Stopped>
+) -> Result<Vec<Box<Group<'t>>>, Refusal<SyntaxFault>>
     requires depth { scope.depth ≤ nesting_limit }
     ensures gives { Parses (statements.read_groups (names_in scope.entry) (parsers_in scope.entry)
         (statements_in scope.entry fuel) scope.entry.depth) groups_in tokens.old tokens.new result }
@@ -272,7 +277,7 @@ fn statement<'t>(
     ensures shorter { IfOk result (λ _. IsShorter tokens.new tokens.old) }
 {
     if fuel == 0 {
-        return Err(Stopped::At(Fault::LimitExceeded));
+        return Err(Refusal::Fault(SyntaxFault::LimitExceeded));
     }
     let inner = fuel - 1;
     if tokens.next_is(Punctuator::LeftBrace) {
@@ -301,7 +306,10 @@ fn statement<'t>(
 }
 
 /// The parts of a block, as long as one can begin with the next token.
-pub fn parts<'t>(scope: Scope<'_, 't>, tokens: &mut Tokens<'t>) -> Result<Vec<Part<'t>>, Stopped>
+pub fn parts<'t>(
+    scope: Scope<'_, 't>,
+    tokens: &mut Tokens<'t>,
+) -> Result<Vec<Part<'t>>, Refusal<SyntaxFault>>
     requires depth { scope.depth ≤ nesting_limit }
     ensures gives { Parses (statements.read_parts (names_in scope.entry) (parsers_in scope.entry)
         (statements.read_statement (names_in scope.entry) (parsers_in scope.entry) statement_fuel)

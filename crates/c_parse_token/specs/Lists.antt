@@ -7,10 +7,11 @@ use Rattle.c_parse_spec.specs.Limits.{operator_limit}
 use Rattle.c_parse_spec.specs.Expressions.{is_typedef_name}
 use Rattle.c_parse_spec.specs.declared.Role.{Role}
 use Rattle.exact_read.specs.Reading.{Outcome, Parser, Fault, LimitExceeded, Wrong}
-use Rattle.c_parse_token.specs.declared.outcome.Fault.{Fault as FaultRow}
-use Rattle.c_parse_token.specs.declared.outcome.Fault.TheVariants.{LimitExceeded as a_deep, Wrong as a_wrong}
-use Rattle.c_parse_token.specs.declared.outcome.Stopped.{Stopped}
-use Rattle.c_parse_token.specs.declared.outcome.Stopped.TheVariants.{NoMemory, At}
+use Rattle.c_parse_token.specs.declared.outcome.SyntaxFault.{SyntaxFault as FaultRow}
+use Rattle.c_parse_token.specs.declared.outcome.SyntaxFault.TheVariants.{LimitExceeded as a_deep, Wrong as a_wrong}
+use Rattle.attempt.specs.declared.refusal.Refusal.{Refusal}
+use Rattle.attempt.specs.declared.refusal.Refusal.TheVariants as refusal
+use Rattle.c_parse_token.specs.declared.outcome.SyntaxFault.{SyntaxFault}
 use Rattle.c_parse_token.specs.declared.names.TypedefNames.{TypedefNames}
 use Rattle.c_parse_token.specs.declared.tokens.Tokens.{Tokens}
 
@@ -32,17 +33,17 @@ fault_of (a_wrong role) = Wrong role
 
 -- What a parser gives is the outcome that the reference parser has: the value, and the tokens after it that are
 -- left; or the fault, and the tokens from the one at fault on are left. Out of memory can always come.
-abbrev pub Gives : {X Y : Type 0} → Outcome Placed Role Y → (view : X → Y) → (left : List Token) → Result X Stopped → Type 0
+abbrev pub Gives : {X Y : Type 0} → Outcome Placed Role Y → (view : X → Y) → (left : List Token) → Result X (Refusal SyntaxFault) → Type 0
 Gives outcome view left (Ok x) = outcome ≡ Ok (view x, list_of left)
-Gives outcome view left (Err NoMemory) = Unit {0}
-Gives outcome view left (Err (At fault)) = outcome ≡ Err (fault_of fault, list_of left)
+Gives outcome view left (Err refusal.NoMemory) = Unit {0}
+Gives outcome view left (Err (refusal.Fault fault)) = outcome ≡ Err (fault_of fault, list_of left)
 
 -- so many operators more were read, and they are not too many
 abbrev pub IsCounted : (before more after : ℕ) → Type 0
 IsCounted before more after = (after ≡ before + more) × (after ≤ operator_limit)
 
 -- a parser that takes these tokens to those left gives what the reference parser gives
-abbrev pub Parses : {X Y : Type 0} → (reader : Parser Placed Role Y) → (view : X → Y) → (old new : Tokens) → (result : Result X Stopped) → Type 0
+abbrev pub Parses : {X Y : Type 0} → (reader : Parser Placed Role Y) → (view : X → Y) → (old new : Tokens) → (result : Result X (Refusal SyntaxFault)) → Type 0
 Parses reader view old new result = Gives (reader (list_of old.rest.now)) view new.rest.now result
 
 -- one token was taken, one or more, or any number of them

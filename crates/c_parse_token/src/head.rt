@@ -10,8 +10,9 @@ ghost use Rattle.c_parse_token.specs.Lists.{names_of, Parses, TakesOne};
 ghost use Rattle.c_parse_token.specs.Words.{head_of};
 
 use crate::names::TypedefNames;
-use crate::outcome::{Fault, Stopped};
+use crate::outcome::SyntaxFault;
 use crate::tokens::Tokens;
+use attempt::Refusal;
 use c_parse_spec::Role;
 use c_syntax::expression::Name;
 use c_token::Kind;
@@ -72,17 +73,17 @@ fn head_at<'t>(kind: Kind<'t>, offset: usize, names: &TypedefNames<'t>) -> Optio
 pub fn type_specifier_head<'t>(
     tokens: &mut Tokens<'t>,
     names: &TypedefNames<'t>,
-) -> Result<(Head<'t>, usize), Stopped>
+) -> Result<(Head<'t>, usize), Refusal<SyntaxFault>>
     ensures gives { Parses (token Nothing plain (types.head_at (names_of names.now)))
         (λ x. (head_of x.0, x.1)) tokens.old tokens.new result }
     ensures shorter { IfOk result (λ _. TakesOne tokens.old tokens.new) }
     ensures count { tokens.new.count ≡ tokens.old.count }
 {
     let [first, rest @ ..] = tokens.rest else {
-        return Err(Stopped::At(Fault::Wrong(Role::Nothing)));
+        return Err(Refusal::Fault(SyntaxFault::Wrong(Role::Nothing)));
     };
     let Some(head) = head_at(first.kind, first.offset, names) else {
-        return Err(Stopped::At(Fault::Wrong(Role::Nothing)));
+        return Err(Refusal::Fault(SyntaxFault::Wrong(Role::Nothing)));
     };
     tokens.rest = rest;
     Ok((head, first.offset))

@@ -16,7 +16,8 @@ use crate::class::{
     access_operator, begins_type, binary_operator, is_mark, level_of, unary_operator,
 };
 use crate::names::TypedefNames;
-use crate::outcome::{Fault, Stopped};
+use crate::outcome::SyntaxFault;
+use attempt::Refusal;
 use c_parse_spec::{NESTING_LIMIT, OPERATOR_LIMIT, Role};
 use c_syntax::expression::Name;
 use c_syntax_spec::{Access, BinaryOperator, UnaryOperator};
@@ -125,7 +126,7 @@ impl<'t> Tokens<'t> {
     }
 
     /// A punctuator, where this is expected: its offset.
-    pub fn mark(&mut self, wanted: Punctuator, role: Role) -> Result<usize, Stopped>
+    pub fn mark(&mut self, wanted: Punctuator, role: Role) -> Result<usize, Refusal<SyntaxFault>>
         ensures gives { Parses (parsers.token role (expected role) (classes.mark_offset wanted))
             (λ x. x) self.old self.new result }
         ensures shorter { IfOk result (λ _. TakesOne self.old self.new) }
@@ -136,22 +137,22 @@ impl<'t> Tokens<'t> {
                 self.rest = rest;
                 Ok(first.offset)
             }
-            _ => Err(Stopped::At(Fault::Wrong(role))),
+            _ => Err(Refusal::Fault(SyntaxFault::Wrong(role))),
         }
     }
 
     /// A name, where this is expected.
-    pub fn name(&mut self, role: Role) -> Result<Name<'t>, Stopped>
+    pub fn name(&mut self, role: Role) -> Result<Name<'t>, Refusal<SyntaxFault>>
         ensures gives { Parses (parsers.token role (expected role) classes.name_at) name_of self.old
             self.new result }
         ensures shorter { IfOk result (λ _. TakesOne self.old self.new) }
         ensures count { self.new.count ≡ self.old.count }
     {
         let [first, rest @ ..] = self.rest else {
-            return Err(Stopped::At(Fault::Wrong(role)));
+            return Err(Refusal::Fault(SyntaxFault::Wrong(role)));
         };
         let Kind::Name(spelling) = first.kind else {
-            return Err(Stopped::At(Fault::Wrong(role)));
+            return Err(Refusal::Fault(SyntaxFault::Wrong(role)));
         };
         let offset = first.offset;
         self.rest = rest;
@@ -159,7 +160,11 @@ impl<'t> Tokens<'t> {
     }
 
     /// A punctuator with which a construct more is open, which is no operator: its offset.
-    pub fn opening(&mut self, wanted: Punctuator, depth: usize) -> Result<usize, Stopped>
+    pub fn opening(
+        &mut self,
+        wanted: Punctuator,
+        depth: usize,
+    ) -> Result<usize, Refusal<SyntaxFault>>
         ensures gives { Parses (parsers.token Nothing (opens (suc depth))
             (classes.mark_offset wanted)) (λ x. x) self.old self.new result }
         ensures shorter { IfOk result (λ _. TakesOne self.old self.new) }
@@ -169,17 +174,21 @@ impl<'t> Tokens<'t> {
         match self.rest {
             [first, rest @ ..] if is_mark(first.kind, wanted) => {
                 if NESTING_LIMIT <= depth {
-                    return Err(Stopped::At(Fault::LimitExceeded));
+                    return Err(Refusal::Fault(SyntaxFault::LimitExceeded));
                 }
                 self.rest = rest;
                 Ok(first.offset)
             }
-            _ => Err(Stopped::At(Fault::Wrong(Role::Nothing))),
+            _ => Err(Refusal::Fault(SyntaxFault::Wrong(Role::Nothing))),
         }
     }
 
     /// A bracket that is an operator, with which a construct more is open: its offset.
-    pub fn bracket(&mut self, wanted: Punctuator, depth: usize) -> Result<usize, Stopped>
+    pub fn bracket(
+        &mut self,
+        wanted: Punctuator,
+        depth: usize,
+    ) -> Result<usize, Refusal<SyntaxFault>>
         ensures gives { Parses (parsers.token Nothing (brackets (suc depth) (suc self.old.count))
             (classes.mark_offset wanted)) (λ x. x) self.old self.new result }
         ensures shorter { IfOk result (λ _. TakesOne self.old self.new) }
@@ -189,18 +198,18 @@ impl<'t> Tokens<'t> {
         match self.rest {
             [first, rest @ ..] if is_mark(first.kind, wanted) => {
                 if is_full(depth, self.count) {
-                    return Err(Stopped::At(Fault::LimitExceeded));
+                    return Err(Refusal::Fault(SyntaxFault::LimitExceeded));
                 }
                 self.rest = rest;
                 self.count += 1;
                 Ok(first.offset)
             }
-            _ => Err(Stopped::At(Fault::Wrong(Role::Nothing))),
+            _ => Err(Refusal::Fault(SyntaxFault::Wrong(Role::Nothing))),
         }
     }
 
     /// A punctuator that is an operator: its offset.
-    pub fn operator(&mut self, wanted: Punctuator) -> Result<usize, Stopped>
+    pub fn operator(&mut self, wanted: Punctuator) -> Result<usize, Refusal<SyntaxFault>>
         ensures gives { Parses (parsers.token Nothing (operates (suc self.old.count))
             (classes.mark_offset wanted)) (λ x. x) self.old self.new result }
         ensures shorter { IfOk result (λ _. TakesOne self.old self.new) }
@@ -210,18 +219,18 @@ impl<'t> Tokens<'t> {
         match self.rest {
             [first, rest @ ..] if is_mark(first.kind, wanted) => {
                 if is_full(0, self.count) {
-                    return Err(Stopped::At(Fault::LimitExceeded));
+                    return Err(Refusal::Fault(SyntaxFault::LimitExceeded));
                 }
                 self.rest = rest;
                 self.count += 1;
                 Ok(first.offset)
             }
-            _ => Err(Stopped::At(Fault::Wrong(Role::Nothing))),
+            _ => Err(Refusal::Fault(SyntaxFault::Wrong(Role::Nothing))),
         }
     }
 
     /// `sizeof`: its offset.
-    pub fn sizeof_word(&mut self) -> Result<usize, Stopped>
+    pub fn sizeof_word(&mut self) -> Result<usize, Refusal<SyntaxFault>>
         ensures gives { Parses (parsers.token Nothing (operates (suc self.old.count))
             classes.sizeof_offset) (λ x. x) self.old self.new result }
         ensures shorter { IfOk result (λ _. TakesOne self.old self.new) }
@@ -231,18 +240,18 @@ impl<'t> Tokens<'t> {
         match self.rest {
             [first, rest @ ..] if is_sizeof(first.kind) => {
                 if is_full(0, self.count) {
-                    return Err(Stopped::At(Fault::LimitExceeded));
+                    return Err(Refusal::Fault(SyntaxFault::LimitExceeded));
                 }
                 self.rest = rest;
                 self.count += 1;
                 Ok(first.offset)
             }
-            _ => Err(Stopped::At(Fault::Wrong(Role::Nothing))),
+            _ => Err(Refusal::Fault(SyntaxFault::Wrong(Role::Nothing))),
         }
     }
 
     /// An operator before its operand, and its offset.
-    pub fn prefix(&mut self) -> Result<(UnaryOperator, usize), Stopped>
+    pub fn prefix(&mut self) -> Result<(UnaryOperator, usize), Refusal<SyntaxFault>>
         ensures gives { Parses (parsers.token Nothing (operates (suc self.old.count))
             (classes.with_offset classes.unary_operator)) (λ x. x) self.old self.new result }
         ensures shorter { IfOk result (λ _. TakesOne self.old self.new) }
@@ -250,13 +259,13 @@ impl<'t> Tokens<'t> {
             (self.new.count ≤ operator_limit)) }
     {
         let [first, rest @ ..] = self.rest else {
-            return Err(Stopped::At(Fault::Wrong(Role::Nothing)));
+            return Err(Refusal::Fault(SyntaxFault::Wrong(Role::Nothing)));
         };
         let Some(operator) = unary_operator(first.kind) else {
-            return Err(Stopped::At(Fault::Wrong(Role::Nothing)));
+            return Err(Refusal::Fault(SyntaxFault::Wrong(Role::Nothing)));
         };
         if is_full(0, self.count) {
-            return Err(Stopped::At(Fault::LimitExceeded));
+            return Err(Refusal::Fault(SyntaxFault::LimitExceeded));
         }
         self.rest = rest;
         self.count += 1;
@@ -264,7 +273,7 @@ impl<'t> Tokens<'t> {
     }
 
     /// `.` or `->`, and its offset.
-    pub fn access(&mut self) -> Result<(Access, usize), Stopped>
+    pub fn access(&mut self) -> Result<(Access, usize), Refusal<SyntaxFault>>
         ensures gives { Parses (parsers.token Nothing (operates (suc self.old.count))
             (classes.with_offset classes.access_operator)) (λ x. x) self.old self.new result }
         ensures shorter { IfOk result (λ _. TakesOne self.old self.new) }
@@ -272,13 +281,13 @@ impl<'t> Tokens<'t> {
             (self.new.count ≤ operator_limit)) }
     {
         let [first, rest @ ..] = self.rest else {
-            return Err(Stopped::At(Fault::Wrong(Role::Nothing)));
+            return Err(Refusal::Fault(SyntaxFault::Wrong(Role::Nothing)));
         };
         let Some(operator) = access_operator(first.kind) else {
-            return Err(Stopped::At(Fault::Wrong(Role::Nothing)));
+            return Err(Refusal::Fault(SyntaxFault::Wrong(Role::Nothing)));
         };
         if is_full(0, self.count) {
-            return Err(Stopped::At(Fault::LimitExceeded));
+            return Err(Refusal::Fault(SyntaxFault::LimitExceeded));
         }
         self.rest = rest;
         self.count += 1;
@@ -286,7 +295,7 @@ impl<'t> Tokens<'t> {
     }
 
     /// An operator of this level between operands, and its offset.
-    pub fn infix(&mut self, level: u8) -> Result<(BinaryOperator, usize), Stopped>
+    pub fn infix(&mut self, level: u8) -> Result<(BinaryOperator, usize), Refusal<SyntaxFault>>
         ensures gives { Parses (parsers.token Nothing (operates (suc self.old.count))
             (classes.with_offset (classes.of_level level))) (λ x. x) self.old self.new result }
         ensures shorter { IfOk result (λ _. TakesOne self.old self.new) }
@@ -294,13 +303,13 @@ impl<'t> Tokens<'t> {
             (self.new.count ≤ operator_limit)) }
     {
         let [first, rest @ ..] = self.rest else {
-            return Err(Stopped::At(Fault::Wrong(Role::Nothing)));
+            return Err(Refusal::Fault(SyntaxFault::Wrong(Role::Nothing)));
         };
         let Some(operator) = of_level(first.kind, level) else {
-            return Err(Stopped::At(Fault::Wrong(Role::Nothing)));
+            return Err(Refusal::Fault(SyntaxFault::Wrong(Role::Nothing)));
         };
         if is_full(0, self.count) {
-            return Err(Stopped::At(Fault::LimitExceeded));
+            return Err(Refusal::Fault(SyntaxFault::LimitExceeded));
         }
         self.rest = rest;
         self.count += 1;
@@ -308,20 +317,20 @@ impl<'t> Tokens<'t> {
     }
 
     /// A name that is no typedef name.
-    pub fn plain_name(&mut self, names: &TypedefNames<'t>) -> Result<Name<'t>, Stopped>
+    pub fn plain_name(&mut self, names: &TypedefNames<'t>) -> Result<Name<'t>, Refusal<SyntaxFault>>
         ensures gives { Parses (parsers.token Nothing plain (types.plain_name_at
             (names_of names.now))) name_of self.old self.new result }
         ensures shorter { IfOk result (λ _. TakesOne self.old self.new) }
         ensures count { self.new.count ≡ self.old.count }
     {
         let [first, rest @ ..] = self.rest else {
-            return Err(Stopped::At(Fault::Wrong(Role::Nothing)));
+            return Err(Refusal::Fault(SyntaxFault::Wrong(Role::Nothing)));
         };
         let Kind::Name(spelling) = first.kind else {
-            return Err(Stopped::At(Fault::Wrong(Role::Nothing)));
+            return Err(Refusal::Fault(SyntaxFault::Wrong(Role::Nothing)));
         };
         if names.contains(spelling) {
-            return Err(Stopped::At(Fault::Wrong(Role::Nothing)));
+            return Err(Refusal::Fault(SyntaxFault::Wrong(Role::Nothing)));
         }
         let offset = first.offset;
         self.rest = rest;

@@ -23,6 +23,8 @@ use Rattle.c_types_core.specs.declared.expression.Core as expression
 use Rattle.c_types_core.specs.Actions.{action_of}
 use Rattle.c_types_core.specs.Expressions.{core_of}
 use Rattle.c_run_value.specs.Gives.{Gives, GivesValue}
+use Rattle.attempt.specs.declared.refusal.Refusal.{Refusal}
+use Rattle.attempt.specs.declared.refusal.Refusal.TheVariants.{Fault, NoMemory}
 use Rattle.c_run_value.specs.declared.setting.Stop.{Stop}
 use Rattle.c_run_value.specs.declared.setting.Stop.TheVariants as stop
 use Rattle.c_run.specs.declared.frame.Task.{Task}
@@ -93,21 +95,21 @@ abbrev pub numbers : Result ℕ Broken → Result ℕ Broken → Type 0
 numbers a b = a ≡ b
 
 -- a result that is a guard stops the run
-pub stops : {B C : Type 0} (setting : Setting) (old new : Frame) (after : Memory) (given : ℕ → Flow) (seen : C → B) (e : Stop) (r : Result B Broken) (next : B → ℕ → Flow)
+pub stops : {B C : Type 0} (setting : Setting) (old new : Frame) (after : Memory) (given : ℕ → Flow) (seen : C → B) (e : Refusal Stop) (r : Result B Broken) (next : B → ℕ → Flow)
     → Gives seen (Err e) r → ((left : ℕ) → given left ≡ on_ok r (λ x. next x left)) → Follows setting new after (Err e) (λ left. through setting old.types.now old.tasks.items (given left))
-stops setting old new after given seen (stop.Broke guard offset) r next gives is =
+stops setting old new after given seen (Fault (stop.Broke guard offset)) r next gives is =
     λ left. ap (through setting old.types.now old.tasks.items) (is left ∙ ap (λ q. on_ok q (λ x. next x left)) gives) ∙ through-Broke setting old.types.now old.tasks.items guard offset
-stops setting old new after given seen stop.Memory r next gives is = tt {0}
+stops setting old new after given seen NoMemory r next gives is = tt {0}
 
 -- where only memory is short nothing is to be shown
-pub no_memory : (setting : Setting) (new : Frame) (after : Memory) (given : ℕ → Flow) (e : Stop) → e ≡ stop.Memory → Follows setting new after (Err e) given
+pub no_memory : (setting : Setting) (new : Frame) (after : Memory) (given : ℕ → Flow) (e : Refusal Stop) → e ≡ NoMemory → Follows setting new after (Err e) given
 no_memory setting new after given e out = subst (λ q. Follows setting new after (Err q) given) (sym out) (tt {0})
 
 -- what follows is the same where what is given is
-pub changed : (setting : Setting) (new : Frame) (after : Memory) (result : Result Next Stop) (given other : ℕ → Flow) → ((left : ℕ) → other left ≡ given left) → Follows setting new after result given → Follows setting new after result other
+pub changed : (setting : Setting) (new : Frame) (after : Memory) (result : Result Next (Refusal Stop)) (given other : ℕ → Flow) → ((left : ℕ) → other left ≡ given left) → Follows setting new after result given → Follows setting new after result other
 changed setting new after (Ok n) given other same follows = λ left. same left ∙ follows left
-changed setting new after (Err (stop.Broke guard offset)) given other same follows = λ left. same left ∙ follows left
-changed setting new after (Err stop.Memory) given other same follows = tt {0}
+changed setting new after (Err (Fault (stop.Broke guard offset))) given other same follows = λ left. same left ∙ follows left
+changed setting new after (Err NoMemory) given other same follows = tt {0}
 
 -- the tasks stay
 pub stays : (setting : Setting) (given : ℕ → Flow) (old new : Frame) (after : Memory) (n : Next) → new.types ≡ old.types → new.tasks ≡ old.tasks
@@ -140,9 +142,9 @@ and_pushed old middle new ts t first second = record {
 pub ok_is : (a b : ℕ) → numbers (Ok a) (Ok b) → a ≡ b
 ok_is a b e = cc
 
-pub no_err : (seen : ℕ → ℕ) (a : ℕ) (e : Stop) → Gives seen (Err e) (Ok a) → e ≡ stop.Memory
-no_err seen a (stop.Broke guard offset) gives = absurd (cc)
-no_err seen a stop.Memory gives = refl
+pub no_err : (seen : ℕ → ℕ) (a : ℕ) (e : Refusal Stop) → Gives seen (Err e) (Ok a) → e ≡ NoMemory
+no_err seen a (Fault (stop.Broke guard offset)) gives = absurd (cc)
+no_err seen a NoMemory gives = refl
 
 -- ---- tests
 
@@ -156,14 +158,14 @@ pub by_truth : (r : Evaluated) (b : Bool) (first second : Flow) → truth r ≡ 
 by_truth (Ok v) b first second e = by_zero (is_zero v) b first second (let h : not (is_zero v) ≡ b = cc in h)
 by_truth (Err broken) b first second e = absurd (cc)
 
-pub no_truth : (seen : Bool → Bool) (e : Stop) (r : Evaluated) → Gives seen (Err e) (truth r) → GivesValue (Err e) r
-no_truth seen (stop.Broke guard offset) (Ok v) gives = absurd (cc)
-no_truth seen (stop.Broke guard offset) (Err broken) gives = let h : broken ≡ (guard, offset) = cc in ap (λ x. Err x) h
-no_truth seen stop.Memory r gives = tt {0}
+pub no_truth : (seen : Bool → Bool) (e : Refusal Stop) (r : Evaluated) → Gives seen (Err e) (truth r) → GivesValue (Err e) r
+no_truth seen (Fault (stop.Broke guard offset)) (Ok v) gives = absurd (cc)
+no_truth seen (Fault (stop.Broke guard offset)) (Err broken) gives = let h : broken ≡ (guard, offset) = cc in ap (λ x. Err x) h
+no_truth seen NoMemory r gives = tt {0}
 
-pub truth_not : (seen : Bool → Bool) (e : Stop) (r : Evaluated) → GivesValue (Err e) r → Gives seen (Err e) (truth r)
-truth_not seen (stop.Broke guard offset) r gives = ap truth gives
-truth_not seen stop.Memory r gives = tt {0}
+pub truth_not : (seen : Bool → Bool) (e : Refusal Stop) (r : Evaluated) → GivesValue (Err e) r → Gives seen (Err e) (truth r)
+truth_not seen (Fault (stop.Broke guard offset)) r gives = ap truth gives
+truth_not seen NoMemory r gives = tt {0}
 
 -- ---- loops
 
@@ -286,31 +288,31 @@ module _ (setting : Setting) (old : Frame) (memory : Memory) where
   leaves j e is = subst (λ x. Acts setting (Leave j) old memory old memory (Ok (next.Goes x))) (sym is) (stays setting (λ left. performed setting old.types.now (Leave j) (state old.locals.items memory) left) old old memory (next.Goes (ending_of j)) refl refl
       (λ left. performed-Leave setting old.types.now j (state old.locals.items memory) left ∙ jumps j left))
 
-  pub lacks_return : (offset : ℕ) → Acts setting (MissingReturn offset) old memory old memory (Err (stop.Broke guards.MissingReturn offset))
+  pub lacks_return : (offset : ℕ) → Acts setting (MissingReturn offset) old memory old memory (Err (Fault (stop.Broke guards.MissingReturn offset)))
   lacks_return offset = λ left. ap (through setting old.types.now old.tasks.items) (performed-MissingReturn setting old.types.now offset (state old.locals.items memory) left) ∙ through-Broke setting old.types.now old.tasks.items guards.MissingReturn offset
 
-  pub evaluates_not : (new : Frame) (after : Memory) (core : Core) (e : Stop) → GivesValue (Err e) (value setting old.locals.items memory 0 core) → Acts setting (Evaluate core) old memory new after (Err e)
+  pub evaluates_not : (new : Frame) (after : Memory) (core : Core) (e : Refusal Stop) → GivesValue (Err e) (value setting old.locals.items memory 0 core) → Acts setting (Evaluate core) old memory new after (Err e)
   evaluates_not new after core e broken = stops setting old new after (λ left. performed setting old.types.now (Evaluate core) (state old.locals.items memory) left) (λ v. v) e (value setting old.locals.items memory 0 core)
       (λ v left. Went (state old.locals.items memory) left) broken (λ left. performed-Evaluate setting old.types.now core (state old.locals.items memory) left)
 
-  pub sets_not : (new : Frame) (after : Memory) (local : ℕ) (core : Core) (e : Stop) → GivesValue (Err e) (value setting old.locals.items memory 0 core) → Acts setting (Set local core) old memory new after (Err e)
+  pub sets_not : (new : Frame) (after : Memory) (local : ℕ) (core : Core) (e : Refusal Stop) → GivesValue (Err e) (value setting old.locals.items memory 0 core) → Acts setting (Set local core) old memory new after (Err e)
   sets_not new after local core e broken = stops setting old new after (λ left. performed setting old.types.now (Set local core) (state old.locals.items memory) left) (λ v. v) e (value setting old.locals.items memory 0 core)
       (λ v left. Went (with_local (state old.locals.items memory) local (Some v)) left) broken (λ left. performed-Set setting old.types.now local core (state old.locals.items memory) left)
 
-  pub chooses_not : (new : Frame) (after : Memory) (core : Core) (first second : Action) (seen : Bool → Bool) (e : Stop) → Gives seen (Err e) (truth (value setting old.locals.items memory 0 core)) → Acts setting (If core first second) old memory new after (Err e)
+  pub chooses_not : (new : Frame) (after : Memory) (core : Core) (first second : Action) (seen : Bool → Bool) (e : Refusal Stop) → Gives seen (Err e) (truth (value setting old.locals.items memory 0 core)) → Acts setting (If core first second) old memory new after (Err e)
   chooses_not new after core first second seen e broken = stops setting old new after (λ left. performed setting old.types.now (If core first second) (state old.locals.items memory) left) (λ v. v) e (value setting old.locals.items memory 0 core)
       (λ v left. if is_zero v then performed setting old.types.now second (state old.locals.items memory) left else performed setting old.types.now first (state old.locals.items memory) left) (no_truth seen e (value setting old.locals.items memory 0 core) broken) (λ left. performed-If setting old.types.now core first second (state old.locals.items memory) left)
 
-  pub gives_not : (new : Frame) (after : Memory) (core : Core) (given : Option Core) (e : Stop) → given ≡ Some core → GivesValue (Err e) (value setting old.locals.items memory 0 core) → Acts setting (Return given) old memory new after (Err e)
+  pub gives_not : (new : Frame) (after : Memory) (core : Core) (given : Option Core) (e : Refusal Stop) → given ≡ Some core → GivesValue (Err e) (value setting old.locals.items memory 0 core) → Acts setting (Return given) old memory new after (Err e)
   gives_not new after core given e is broken = stops setting old new after (λ left. performed setting old.types.now (Return given) (state old.locals.items memory) left) (λ v. v) e (value setting old.locals.items memory 0 core)
       (λ v left. Gave (Some v) memory left) broken (λ left. ap (λ g. performed setting old.types.now (Return g) (state old.locals.items memory) left) is ∙ performed-Return setting old.types.now core (state old.locals.items memory) left)
 
-  pub calls_not : (new : Frame) (after : Memory) (number : ℕ) (function : List ℕ) (arguments : List Core) (local : Option ℕ) (seen : Unit {0} → List ℤ) (e : Stop) → Gives seen (Err e) (values setting old.locals.items memory arguments)
+  pub calls_not : (new : Frame) (after : Memory) (number : ℕ) (function : List ℕ) (arguments : List Core) (local : Option ℕ) (seen : Unit {0} → List ℤ) (e : Refusal Stop) → Gives seen (Err e) (values setting old.locals.items memory arguments)
       → Acts setting (Call number function arguments local) old memory new after (Err e)
   calls_not new after number function arguments local seen e broken = stops setting old new after (λ left. performed setting old.types.now (Call number function arguments local) (state old.locals.items memory) left) seen e (values setting old.locals.items memory arguments)
       (λ vs left. after_call old.types.now old.locals.items local (called setting function vs memory left)) broken (λ left. performed-Call setting old.types.now number function arguments local (state old.locals.items memory) left)
 
-  pub addresses_not : (new : Frame) (after : Memory) (type : Scalar) (address : Core) (displacement : ℕ) (core : Core) (offset : ℕ) (e : Stop) → GivesValue (Err e) (value setting old.locals.items memory 0 address)
+  pub addresses_not : (new : Frame) (after : Memory) (type : Scalar) (address : Core) (displacement : ℕ) (core : Core) (offset : ℕ) (e : Refusal Stop) → GivesValue (Err e) (value setting old.locals.items memory 0 address)
       → Acts setting (Store type address displacement core offset) old memory new after (Err e)
   addresses_not new after type address displacement core offset e broken = stops setting old new after (λ left. performed setting old.types.now (Store type address displacement core offset) (state old.locals.items memory) left) (λ v. v) e (value setting old.locals.items memory 0 address)
       (λ a left. on_ok (value setting old.locals.items memory (address_of a + displacement) core) (λ v. on_ok (stored setting memory type (address_of a + displacement) v offset) (λ m. Went (state old.locals.items m) left)))
@@ -322,13 +324,13 @@ module _ (setting : Setting) (old : Frame) (memory : Memory) where
       ∙ ap (λ r. on_ok r (λ a. on_ok (value setting old.locals.items memory (address_of a + displacement) core) (λ v. on_ok (stored setting memory type (address_of a + displacement) v offset) (λ m. Went (state old.locals.items m) left)))) e1
       ∙ ap (λ p. on_ok (value setting old.locals.items memory p core) (λ v. on_ok (stored setting memory type p v offset) (λ m. Went (state old.locals.items m) left))) at
 
-  pub stores_no_value : (new : Frame) (after : Memory) (type : Scalar) (address : Core) (displacement : ℕ) (core : Core) (offset : ℕ) (a : ℤ) (place : ℕ) (e : Stop)
+  pub stores_no_value : (new : Frame) (after : Memory) (type : Scalar) (address : Core) (displacement : ℕ) (core : Core) (offset : ℕ) (a : ℤ) (place : ℕ) (e : Refusal Stop)
       → value setting old.locals.items memory 0 address ≡ Ok a → address_of a + displacement ≡ place → GivesValue (Err e) (value setting old.locals.items memory place core)
       → Acts setting (Store type address displacement core offset) old memory new after (Err e)
   stores_no_value new after type address displacement core offset a place e e1 at broken = stops setting old new after (λ left. performed setting old.types.now (Store type address displacement core offset) (state old.locals.items memory) left) (λ v. v) e (value setting old.locals.items memory place core)
       (λ v left. on_ok (stored setting memory type place v offset) (λ m. Went (state old.locals.items m) left)) broken (λ left. located type address displacement core offset a place left e1 at)
 
-  pub stores_not : (new : Frame) (after : Memory) (type : Scalar) (address : Core) (displacement : ℕ) (core : Core) (offset : ℕ) (a : ℤ) (place : ℕ) (v : ℤ) (seen : Unit {0} → Memory) (e : Stop)
+  pub stores_not : (new : Frame) (after : Memory) (type : Scalar) (address : Core) (displacement : ℕ) (core : Core) (offset : ℕ) (a : ℤ) (place : ℕ) (v : ℤ) (seen : Unit {0} → Memory) (e : Refusal Stop)
       → value setting old.locals.items memory 0 address ≡ Ok a → address_of a + displacement ≡ place → value setting old.locals.items memory place core ≡ Ok v → Gives seen (Err e) (stored setting memory type place v offset)
       → Acts setting (Store type address displacement core offset) old memory new after (Err e)
   stores_not new after type address displacement core offset a place v seen e e1 at e2 broken = stops setting old new after (λ left. performed setting old.types.now (Store type address displacement core offset) (state old.locals.items memory) left) seen e (stored setting memory type place v offset)
@@ -342,7 +344,7 @@ module _ (setting : Setting) (old : Frame) (memory : Memory) where
       (loop_tasks place' action test step body) (next.Pauses pause.Waits) pushed (λ left. round_is setting old.types.now action test step body old.locals.items memory place' left))
 
 -- an action that is a loop
-pub loops : (setting : Setting) (old new : Frame) (memory after : Memory) (result : Result Next Stop) (number : ℕ) (place : TestPlace) (action : Bor kept.Action) (test : Bor expression.Core) (step body : Bor kept.Action)
+pub loops : (setting : Setting) (old new : Frame) (memory after : Memory) (result : Result Next (Refusal Stop)) (number : ℕ) (place : TestPlace) (action : Bor kept.Action) (test : Bor expression.Core) (step body : Bor kept.Action)
     → action_of action.now ≡ Loop number place (core_of test.now) (action_of step.now) (action_of body.now) → Repeats setting place action test step body old memory new after result → Acts setting (action_of action.now) old memory new after result
 loops setting old new memory after result number place action test step body is repeated = changed setting new after result
     (λ left. through setting old.types.now old.tasks.items (with_turn left (λ n. round_with setting old.types.now action test step body old.locals.items memory place n)))

@@ -16,6 +16,7 @@ use Rattle.c_run_spec.specs.Execution.{State, state, Flow, Went, Calls, on_ok, s
 use Rattle.c_run_spec.specs.Calls.{runs}
 use Rattle.c_run_laws.specs.Depth.{performed}
 use Rattle.c_run_value.specs.Gives.{GivesValue}
+use Rattle.attempt.specs.declared.refusal.Refusal.{Refusal}
 use Rattle.c_run_value.specs.declared.setting.Stop.{Stop}
 use Rattle.c_run.specs.declared.frame.Task.TheVariants as task
 use Rattle.c_run.specs.declared.frame.Frame.{Frame}
@@ -77,7 +78,7 @@ takes setting types test list v a st left e chosen = performed-Switch setting ty
     ∙ ap (λ x. switched (by_taken setting (runs setting left) types left x st left)) chosen
 
 module _ (setting : Setting) (old : Frame) (memory : Memory) where
-  pub switches_not : (new : Frame) (after : Memory) (core : Core) (list : Groups) (e : Stop) → GivesValue (Err e) (value setting old.locals.items memory 0 core)
+  pub switches_not : (new : Frame) (after : Memory) (core : Core) (list : Groups) (e : Refusal Stop) → GivesValue (Err e) (value setting old.locals.items memory 0 core)
       → Acts setting (Switch core list) old memory new after (Err e)
   switches_not new after core list e broken = stops setting old new after (λ left. performed setting old.types.now (Switch core list) (state old.locals.items memory) left) (λ v. v) e (value setting old.locals.items memory 0 core)
       (λ v left. switched (does_group setting (runs setting left) old.types.now left list (chosen_group v list) (state old.locals.items memory) left)) broken (λ left. performed-Switch setting old.types.now core list (state old.locals.items memory) left)

@@ -17,6 +17,8 @@ use Rattle.c_run_laws.specs.Depth.{called, performed}
 use Rattle.c_run_laws.proofs.Turns.{called-suc, called-missing}
 use Rattle.c_types.specs.declared.typed.Body.{Body}
 use Rattle.c_types.specs.Typed.{body_of_name}
+use Rattle.attempt.specs.declared.refusal.Refusal.{Refusal}
+use Rattle.attempt.specs.declared.refusal.Refusal.TheVariants.{Fault, NoMemory}
 use Rattle.c_run_value.specs.declared.setting.Stop.{Stop}
 use Rattle.c_run_value.specs.declared.setting.Stop.TheVariants as stop
 use Rattle.c_run.specs.declared.frame.Pause.{Pause}
@@ -164,22 +166,22 @@ module _ (setting : Setting) (old : Machine) (memory : Memory) where
 -- ---- one turn
 
 -- the tasks stop
-pub goes_not : (setting : Setting) (old : Machine) (memory : Memory) (frame : Frame) (after : Memory) (new : Machine) (e : Stop) → Goes setting old.frame memory frame after (Err e) → Turns (comes_to setting old memory) setting old new after (Err e)
-goes_not setting old memory frame after new (stop.Broke guard offset) goes =
+pub goes_not : (setting : Setting) (old : Machine) (memory : Memory) (frame : Frame) (after : Memory) (new : Machine) (e : Refusal Stop) → Goes setting old.frame memory frame after (Err e) → Turns (comes_to setting old memory) setting old new after (Err e)
+goes_not setting old memory frame after new (Fault (stop.Broke guard offset)) goes =
     ap outcome_of (ap (ends setting old.waiting.items) (goes old.left) ∙ ends-Failed setting old.waiting.items guard offset)
-goes_not setting old memory frame after new stop.Memory goes = tt {0}
+goes_not setting old memory frame after new NoMemory goes = tt {0}
 
-turns_other : (other given : Called) (setting : Setting) (old new : Machine) (after : Memory) (result : Result (Option Ended) Stop) → given ≡ other → Turns other setting old new after result → Turns given setting old new after result
+turns_other : (other given : Called) (setting : Setting) (old new : Machine) (after : Memory) (result : Result (Option Ended) (Refusal Stop)) → given ≡ other → Turns other setting old new after result → Turns given setting old new after result
 turns_other other given setting old new after result same holds = subst (λ c. Turns c setting old new after result) (sym same) holds
 
 -- a machine weighs as much with another innermost function
-with_frame : (given : Called) (setting : Setting) (old new : Machine) (frame : Frame) (after : Memory) (result : Result (Option Ended) Stop) → Turns given setting (record old { frame = frame }) new after result → Turns given setting old new after result
+with_frame : (given : Called) (setting : Setting) (old new : Machine) (frame : Frame) (after : Memory) (result : Result (Option Ended) (Refusal Stop)) → Turns given setting (record old { frame = frame }) new after result → Turns given setting old new after result
 with_frame given setting old new frame after (Ok None) holds = holds
 with_frame given setting old new frame after (Ok (Some e)) holds = holds
 with_frame given setting old new frame after (Err e) holds = holds
 
 -- the innermost function goes on as far as it does by itself, and then the run does
-pub turns_on : (setting : Setting) (old new : Machine) (memory after : Memory) (frame : Frame) (p p' : Pause) (result : Result (Option Ended) Stop) → Goes setting old.frame memory frame after (Ok p) → p ≡ p'
+pub turns_on : (setting : Setting) (old new : Machine) (memory after : Memory) (frame : Frame) (p p' : Pause) (result : Result (Option Ended) (Refusal Stop)) → Goes setting old.frame memory frame after (Ok p) → p ≡ p'
     → Turned setting p' (record old { frame = frame }) new result → Turns (comes_to setting old memory) setting old new after result
 turns_on setting old new memory after frame p p' result goes is turned =
     with_frame (comes_to setting old memory) setting old new frame after result
@@ -189,7 +191,7 @@ turns_on setting old new memory after frame p p' result goes is turned =
 -- ---- a run
 
 -- what one turn comes to, all come to
-pub ends_by : (given other : Called) (after : Memory) (result : Result Ended Stop) → given ≡ other → Ends other after result → Ends given after result
+pub ends_by : (given other : Called) (after : Memory) (result : Result Ended (Refusal Stop)) → given ≡ other → Ends other after result → Ends given after result
 ends_by given other after result is done = subst (λ c. Ends c after result) (sym is) done
 
 pub starts : (setting : Setting) (function : List ℕ) (arguments : List ℤ) (memory : Memory) (turns : ℕ) (found : Option (Bor Body)) (b : Bor Body) (machine : Machine) → option_map (λ (x : Bor Body). body_of_name function x.now) found ≡ body_named setting.bodies function
@@ -226,6 +228,6 @@ module _ (setting : Setting) (function : List ℕ) (arguments : List ℤ) (memor
   unfolding c_run
   run_back e v done is = sym (of_copy ∙ subst (λ x. Ends (called setting function arguments start turns) after (Ok x)) is done)
 
-  pub run_broke : (e : Stop) (guard : Guard) (offset : ℕ) → Ends (called setting function arguments start turns) after (Err e) → e ≡ stop.Broke guard offset → spec.Broke guard offset ≡ c_run setting function arguments memory turns
+  pub run_broke : (e : Refusal Stop) (guard : Guard) (offset : ℕ) → Ends (called setting function arguments start turns) after (Err e) → e ≡ Fault (stop.Broke guard offset) → spec.Broke guard offset ≡ c_run setting function arguments memory turns
   unfolding c_run
   run_broke e guard offset done is = sym (of_copy ∙ subst (λ x. Ends (called setting function arguments start turns) after (Err x)) is done)

@@ -12,6 +12,8 @@ use Rattle.c_run_spec.specs.Evaluation.{Locals, on_result, value, values}
 use Rattle.c_run.specs.declared.frame.Frame.{Frame}
 use Rattle.c_run.specs.Frames.{IsPassed}
 use Rattle.c_run_value.specs.Gives.{Gives, GivesValue}
+use Rattle.attempt.specs.declared.refusal.Refusal.{Refusal}
+use Rattle.attempt.specs.declared.refusal.Refusal.TheVariants.{Fault, NoMemory}
 use Rattle.c_run_value.specs.declared.setting.Stop.{Stop}
 use Rattle.c_run_value.specs.declared.setting.Stop.TheVariants as stop
 
@@ -79,9 +81,9 @@ module _ (setting : Setting) (old : Frame) (memory : Memory) (boxes : List (Box 
       same = record { types = types ∙ passed_so_far.same.types; locals = locals ∙ passed_so_far.same.locals; tasks = tasks ∙ passed_so_far.same.tasks };
     }
 
-    pub passed_stop : {A : Type 0} (seen : A → List ℤ) (e : Stop) → GivesValue (Err e) (value setting frame.locals.items memory 0 (core_of core)) → Gives seen (Err e) (values_of setting old.locals.items memory boxes)
-    passed_stop seen (stop.Broke guard offset) gives = sym passed_so_far.so_far ∙ passes_not setting old.locals.items memory boxes i b frame.arguments.items (guard, offset) within is (sym here ∙ gives)
-    passed_stop seen stop.Memory gives = tt {0}
+    pub passed_stop : {A : Type 0} (seen : A → List ℤ) (e : Refusal Stop) → GivesValue (Err e) (value setting frame.locals.items memory 0 (core_of core)) → Gives seen (Err e) (values_of setting old.locals.items memory boxes)
+    passed_stop seen (Fault (stop.Broke guard offset)) gives = sym passed_so_far.so_far ∙ passes_not setting old.locals.items memory boxes i b frame.arguments.items (guard, offset) within is (sym here ∙ gives)
+    passed_stop seen NoMemory gives = tt {0}
 
   pub passed_all : (i : ℕ) (frame : Frame) → Passed setting old memory boxes i frame → length boxes ≤ i → values_of setting old.locals.items memory boxes ≡ Ok frame.arguments.items
   passed_all i frame passed_so_far past = sym passed_so_far.so_far ∙ passed setting old.locals.items memory boxes i frame.arguments.items past

@@ -17,6 +17,7 @@ use Rattle.c_run_spec.specs.Execution.{State, state, Flow, More, Broke, Went, Ju
 use Rattle.c_run_laws.specs.Depth.{performed}
 use Rattle.c_run_laws.proofs.Turns.{performed-Sequence}
 use Rattle.c_run_value.specs.Gives.{Gives}
+use Rattle.attempt.specs.declared.refusal.Refusal.{Refusal}
 use Rattle.c_run_value.specs.declared.setting.Stop.{Stop}
 use Rattle.c_run.specs.declared.frame.Task.{Task}
 use Rattle.c_run.specs.declared.frame.Task.TheVariants as task
@@ -52,10 +53,10 @@ first_then : (setting : Setting) (types : List Scalar) (first : Action) (rest : 
 first_then setting types first [] st left = sym (then_skips setting types (performed setting types first st left))
 first_then setting types first (x ∷ xs) st left = performed-Sequence setting types first (sequence (x ∷ xs)) st left
 
-pub by_this : (setting : Setting) (old new : Frame) (memory after : Memory) (result : Result Next Stop) (t t' : Task) (e : Ending) → t ≡ t' → Proceeds setting t' e old memory new after result → Proceeds setting t e old memory new after result
+pub by_this : (setting : Setting) (old new : Frame) (memory after : Memory) (result : Result Next (Refusal Stop)) (t t' : Task) (e : Ending) → t ≡ t' → Proceeds setting t' e old memory new after result → Proceeds setting t e old memory new after result
 by_this setting old new memory after result t t' e same proceeds = subst (λ u. Proceeds setting u e old memory new after result) (sym same) proceeds
 
-pub by_ending : (setting : Setting) (old new : Frame) (memory after : Memory) (result : Result Next Stop) (t : Task) (e e' : Ending) → e ≡ e' → Proceeds setting t e' old memory new after result → Proceeds setting t e old memory new after result
+pub by_ending : (setting : Setting) (old new : Frame) (memory after : Memory) (result : Result Next (Refusal Stop)) (t : Task) (e e' : Ending) → e ≡ e' → Proceeds setting t e' old memory new after result → Proceeds setting t e old memory new after result
 by_ending setting old new memory after result t e e' same proceeds = subst (λ x. Proceeds setting t x old memory new after result) (sym same) proceeds
 
 module _ (setting : Setting) (old : Frame) (memory : Memory) where
@@ -64,7 +65,7 @@ module _ (setting : Setting) (old : Frame) (memory : Memory) where
   rests_none actions is = stays setting (λ left. performed setting old.types.now (sequence (map action_of actions.now)) (state old.locals.items memory) left) old old memory (next.Goes ending.Went) refl refl
       (λ left. ap (λ xs. performed setting old.types.now (sequence (map action_of xs)) (state old.locals.items memory) left) is ∙ performed-Skip setting old.types.now (state old.locals.items memory) left)
 
-  pub rests : (middle new : Frame) (after : Memory) (result : Result Next Stop) (actions others : Bor (List kept.Action)) (first : Bor kept.Action) → actions.now ≡ first.now ∷ others.now
+  pub rests : (middle new : Frame) (after : Memory) (result : Result Next (Refusal Stop)) (actions others : Bor (List kept.Action)) (first : Bor kept.Action) → actions.now ≡ first.now ∷ others.now
       → IsPushed old middle (task.Rest others) → Acts setting (action_of first.now) middle memory new after result → Proceeds setting (task.Rest actions) ending.Went old memory new after result
   unfolding applied
   rests middle new after result actions others first is pushed acts = changed setting new after result (λ left. through setting middle.types.now middle.tasks.items (performed setting middle.types.now (action_of first.now) (state middle.locals.items memory) left)) _
@@ -74,7 +75,7 @@ module _ (setting : Setting) (old : Frame) (memory : Memory) where
 
   -- ---- control goes on
 
-  module _ (new : Frame) (after : Memory) (result : Result Next Stop) (action : Bor kept.Action) (acts : Acts setting (action_of action.now) old memory new after result) where
+  module _ (new : Frame) (after : Memory) (result : Result Next (Refusal Stop)) (action : Bor kept.Action) (acts : Acts setting (action_of action.now) old memory new after result) where
     abbrev acted : ℕ → Flow
     acted left = through setting old.types.now old.tasks.items (performed setting old.types.now (action_of action.now) (state old.locals.items memory) left)
 
@@ -111,7 +112,7 @@ module _ (setting : Setting) (old : Frame) (memory : Memory) where
     unfolding applied
     tests_false b e is = stays setting (λ left. tests left) old old memory (next.Goes ending.Broke) refl refl (λ left. tested false left (e ∙ ap (λ x. Ok x) is))
 
-    pub tests_not : (new : Frame) (after : Memory) (seen : Bool → Bool) (e : Stop) → Gives seen (Err e) (truth (value setting old.locals.items memory 0 (core_of test.now))) → Proceeds setting (task.Test test) ending.Went old memory new after (Err e)
+    pub tests_not : (new : Frame) (after : Memory) (seen : Bool → Bool) (e : Refusal Stop) → Gives seen (Err e) (truth (value setting old.locals.items memory 0 (core_of test.now))) → Proceeds setting (task.Test test) ending.Went old memory new after (Err e)
     unfolding applied
     tests_not new after seen e broken = stops setting old new after (λ left. tests left) (λ v. v) e (value setting old.locals.items memory 0 (core_of test.now))
         (λ v left. if is_zero v then Jumped jump.Break (state old.locals.items memory) left else Went (state old.locals.items memory) left)
@@ -154,7 +155,7 @@ module _ (setting : Setting) (old : Frame) (memory : Memory) where
   continued_at types (task.Repeat action) left e = absurd (cc)
   continued_at types task.Switch left e = absurd (cc)
 
-  pub continues_at : (t : Task) (b : Bool) (new : Frame) (after : Memory) (result : Result Next Stop) → b ≡ follows_body t → b ≡ true → Proceeds setting t ending.Went old memory new after result → Proceeds setting t ending.Continued old memory new after result
+  pub continues_at : (t : Task) (b : Bool) (new : Frame) (after : Memory) (result : Result Next (Refusal Stop)) → b ≡ follows_body t → b ≡ true → Proceeds setting t ending.Went old memory new after result → Proceeds setting t ending.Continued old memory new after result
   continues_at t b new after result is yes_it proceeds =
       changed setting new after result (λ left. through setting old.types.now old.tasks.items (applied setting old.types.now t (Went (state old.locals.items memory) left))) _
       (λ left. ap (through setting old.types.now old.tasks.items) (continued_at old.types.now t left (sym is ∙ yes_it))) proceeds

@@ -8,6 +8,8 @@ use Rattle.c_types_spec.specs.declared.Scalar.{Scalar}
 use Rattle.c_run_spec.specs.Setting.{Setting}
 use Rattle.c_run_spec.specs.Execution.{State, state, Flow, Went, Gave, Returned}
 use Rattle.c_run_spec.specs.Calls.{returned}
+use Rattle.attempt.specs.declared.refusal.Refusal.{Refusal}
+use Rattle.attempt.specs.declared.refusal.Refusal.TheVariants.{Fault, NoMemory}
 use Rattle.c_run_value.specs.declared.setting.Stop.{Stop}
 use Rattle.c_run_value.specs.declared.setting.Stop.TheVariants as stop
 use Rattle.c_run.specs.declared.frame.Ending.{Ending}
@@ -62,6 +64,6 @@ module _ (setting : Setting) (first frame : Frame) (start memory : Memory) (end 
     pub taken_pauses : (n : Next) (p : Pause) → Proceeds setting t end popped memory new after (Ok n) → n ≡ next.Pauses p → Goes setting first start new after (Ok p)
     taken_pauses n p proceeds pauses = λ left. ap returned (arrived t left is ∙ proceeds left ∙ ap (λ x. through setting new.types.now new.tasks.items (flow_next setting new.types.now new.locals.items new after x left)) pauses)
 
-    pub taken_stops : (e : Stop) → Proceeds setting t end popped memory new after (Err e) → Goes setting first start new after (Err e)
-    taken_stops (stop.Broke guard offset) proceeds = λ left. ap returned (arrived t left is ∙ proceeds left)
-    taken_stops stop.Memory proceeds = tt {0}
+    pub taken_stops : (e : Refusal Stop) → Proceeds setting t end popped memory new after (Err e) → Goes setting first start new after (Err e)
+    taken_stops (Fault (stop.Broke guard offset)) proceeds = λ left. ap returned (arrived t left is ∙ proceeds left)
+    taken_stops NoMemory proceeds = tt {0}

@@ -9,6 +9,8 @@ use Rattle.c_run_spec.specs.Calls as spec
 use Rattle.c_run_spec.specs.Calls.{returned, outcome_of, locals_at_entry}
 use Rattle.c_types_core.specs.declared.action.Action.{Action}
 use Rattle.c_types.specs.declared.typed.Body.{Body}
+use Rattle.attempt.specs.declared.refusal.Refusal.{Refusal}
+use Rattle.attempt.specs.declared.refusal.Refusal.TheVariants.{Fault, NoMemory}
 use Rattle.c_run_value.specs.declared.setting.Stop.{Stop}
 use Rattle.c_run_value.specs.declared.setting.Stop.TheVariants as stop
 use Rattle.c_run.specs.declared.frame.Pause.{Pause}
@@ -34,24 +36,24 @@ abbrev pub comes_by : Setting → Machine → Memory → Pause → Called
 comes_by setting machine memory at = ends setting machine.waiting.items (paused setting machine.frame memory at machine.left)
 
 -- a run ends as the definition says, and leaves the memory
-abbrev pub Ends : Called → (after : Memory) → Result Ended Stop → Type 0
+abbrev pub Ends : Called → (after : Memory) → Result Ended (Refusal Stop) → Type 0
 Ends given after (Ok ended.More) = outcome_of given ≡ spec.More
 Ends given after (Ok (ended.Back v)) = outcome_of given ≡ spec.Back v after
-Ends given after (Err (stop.Broke guard offset)) = outcome_of given ≡ spec.Broke guard offset
-Ends given after (Err stop.Memory) = Unit {0}
+Ends given after (Err (Fault (stop.Broke guard offset))) = outcome_of given ≡ spec.Broke guard offset
+Ends given after (Err NoMemory) = Unit {0}
 
 -- each turn makes it less
 abbrev pub weight : Machine → ℕ
 weight machine = 2 * machine.left + length machine.waiting.items
 
 -- the run goes on as the definition says, or it ends so
-abbrev pub Turns : (given : Called) → Setting → (old new : Machine) → (after : Memory) → Result (Option Ended) Stop → Type 0
+abbrev pub Turns : (given : Called) → Setting → (old new : Machine) → (after : Memory) → Result (Option Ended) (Refusal Stop) → Type 0
 Turns given setting old new after (Ok None) = (given ≡ comes_to setting new after) × (weight new < weight old)
 Turns given setting old new after (Ok (Some e)) = Ends given after (Ok e)
 Turns given setting old new after (Err e) = Ends given after (Err e)
 
 -- the innermost function doesn't go on by itself, and the run does, or it ends
-abbrev pub Turned : Setting → Pause → (old new : Machine) → Result (Option Ended) Stop → Type 0
+abbrev pub Turned : Setting → Pause → (old new : Machine) → Result (Option Ended) (Refusal Stop) → Type 0
 Turned setting at old new result = (memory : Memory) → Turns (comes_by setting old memory at) setting old new memory result
 
 -- a function has nothing in it but the types of its locals

@@ -26,6 +26,8 @@ use Rattle.c_run.specs.declared.frame.Next.TheVariants as next
 use Rattle.c_run.specs.declared.frame.Frame.{Frame}
 use Rattle.c_run.specs.declared.frame.Task.{Task}
 use Rattle.c_run.specs.declared.frame.Task.TheVariants as task
+use Rattle.attempt.specs.declared.refusal.Refusal.{Refusal}
+use Rattle.attempt.specs.declared.refusal.Refusal.TheVariants.{Fault, NoMemory}
 use Rattle.c_run_value.specs.declared.setting.Stop.{Stop}
 use Rattle.c_run_value.specs.declared.setting.Stop.TheVariants as stop
 
@@ -87,35 +89,35 @@ flow_next setting types locals frame memory (next.Goes end) left = flow_of end (
 flow_next setting types locals frame memory (next.Pauses at) left = flow_at setting types locals frame memory at left
 
 -- a part gives what the definition says, with every number of turns
-abbrev pub FlowsOn : {A : Type 0} → (A → ℕ → Flow) → Result A Stop → (ℕ → Flow) → Type 0
+abbrev pub FlowsOn : {A : Type 0} → (A → ℕ → Flow) → Result A (Refusal Stop) → (ℕ → Flow) → Type 0
 FlowsOn view (Ok x) given = (left : ℕ) → given left ≡ view x left
-FlowsOn view (Err (stop.Broke guard offset)) given = (left : ℕ) → given left ≡ Broke guard offset
-FlowsOn view (Err stop.Memory) given = Unit {0}
+FlowsOn view (Err (Fault (stop.Broke guard offset))) given = (left : ℕ) → given left ≡ Broke guard offset
+FlowsOn view (Err NoMemory) given = Unit {0}
 
 -- whether a value is not 0
 abbrev pub truth : Evaluated → Result Bool Broken
 truth given = on_result given (λ v. Ok (not (is_zero v)))
 
 -- what follows in a frame
-abbrev pub Follows : Setting → Frame → Memory → Result Next Stop → (ℕ → Flow) → Type 0
+abbrev pub Follows : Setting → Frame → Memory → Result Next (Refusal Stop) → (ℕ → Flow) → Type 0
 Follows setting frame memory result given =
     FlowsOn (λ x left. through setting frame.types.now frame.tasks.items (flow_next setting frame.types.now frame.locals.items frame memory x left)) result given
 
 -- a statement is performed in a frame, which is then another, as the memory is
-abbrev pub Acts : Setting → Action → (old : Frame) → (memory : Memory) → (new : Frame) → (after : Memory) → Result Next Stop → Type 0
+abbrev pub Acts : Setting → Action → (old : Frame) → (memory : Memory) → (new : Frame) → (after : Memory) → Result Next (Refusal Stop) → Type 0
 Acts setting action old memory new after result =
     Follows setting new after result (λ left. through setting old.types.now old.tasks.items (performed setting old.types.now action (state old.locals.items memory) left))
 
 -- a round is performed with a turn, and then the action
 abbrev pub Repeats : Setting → TestPlace → (action : Bor kept.Action) → (test : Bor expression.Core) → (step body : Bor kept.Action)
-    → (old : Frame) → (memory : Memory) → (new : Frame) → (after : Memory) → Result Next Stop → Type 0
+    → (old : Frame) → (memory : Memory) → (new : Frame) → (after : Memory) → Result Next (Refusal Stop) → Type 0
 Repeats setting place action test step body old memory new after result =
     Follows setting new after result (λ left. through setting old.types.now old.tasks.items
     (with_turn left (λ n. again (performed setting old.types.now (action_of action.now))
     (round_in setting old.types.now place (core_of test.now) (action_of step.now) (action_of body.now) (state old.locals.items memory) n))))
 
 -- a task is reached in a frame, by how what was before it ended
-abbrev pub Proceeds : Setting → Task → Ending → (old : Frame) → (memory : Memory) → (new : Frame) → (after : Memory) → Result Next Stop → Type 0
+abbrev pub Proceeds : Setting → Task → Ending → (old : Frame) → (memory : Memory) → (new : Frame) → (after : Memory) → Result Next (Refusal Stop) → Type 0
 Proceeds setting t end old memory new after result =
     Follows setting new after result (λ left. through setting old.types.now old.tasks.items (applied setting old.types.now t (flow_of end (state old.locals.items memory) left)))
 
@@ -130,7 +132,7 @@ reached setting frame memory left =
     returned (through setting frame.types.now frame.tasks.items (Went (state frame.locals.items memory) left))
 
 -- a function goes on as far as it does by itself
-abbrev pub Goes : Setting → (old : Frame) → (memory : Memory) → (new : Frame) → (after : Memory) → Result Pause Stop → Type 0
+abbrev pub Goes : Setting → (old : Frame) → (memory : Memory) → (new : Frame) → (after : Memory) → Result Pause (Refusal Stop) → Type 0
 Goes setting old memory new after (Ok at) = (left : ℕ) → reached setting old memory left ≡ paused setting new after at left
-Goes setting old memory new after (Err (stop.Broke guard offset)) = (left : ℕ) → reached setting old memory left ≡ Failed guard offset
-Goes setting old memory new after (Err stop.Memory) = Unit {0}
+Goes setting old memory new after (Err (Fault (stop.Broke guard offset))) = (left : ℕ) → reached setting old memory left ≡ Failed guard offset
+Goes setting old memory new after (Err NoMemory) = Unit {0}

@@ -7,12 +7,12 @@ ghost use Rattle.c_run.specs.Machines.{Ends};
 ghost use Rattle.c_run.specs.Outcomes.{outcome_in};
 
 use crate::machine::{Ended, Machine, body_named, drive, enter};
-use attempt::attempt;
+use attempt::{Refusal, attempt};
 use c_run_spec::Guard;
 use c_run_value::setting::{Place, Setting, Stop, Zone};
 use c_types::typed::Typed;
 use memory::Memory;
-use std::alloc::Global;
+use std::alloc::{AllocError, Global};
 
 /// A call of a function, in a memory.
 #[derive(Clone, Copy)]
@@ -38,14 +38,6 @@ pub enum Outcome {
     Back(Option<i128>, Memory),
 }
 
-/// Why a run has no outcome.
-#[derive(Clone, Copy)]
-pub enum RunError {
-    /// Out of memory. It is also the answer where a value or type is wider than the program
-    /// computes with, which none of a typed core is.
-    NoMemory,
-}
-
 /// How the call of a function with a body ends, with the turns that are left once it is called.
 fn run_body(
     alloc: Global,
@@ -53,7 +45,7 @@ fn run_body(
     call: &Call<'_>,
     after: &mut Memory,
     turns: u64,
-) -> Result<Ended, Stop>
+) -> Result<Ended, Refusal<Stop>>
     requires { 0 < turns }
     ensures { Ends (spec.runs (setting_of setting.now) turns call.now.function.now
         call.now.arguments.now after.old turns) after.new result }
@@ -61,7 +53,7 @@ fn run_body(
     let Some(body) = body_named(setting, call.function) else {
         return Ok(Ended::More);
     };
-    let frame = attempt!(enter(alloc, body, call.arguments), Stop::Memory);
+    let frame = attempt!(enter(alloc, body, call.arguments), Refusal::NoMemory);
     let mut machine = Machine {
         frame,
         waiting: Vec::new(alloc),
@@ -81,7 +73,7 @@ pub fn run<'s, 'a>(
     place: &Place<'s, 'a>,
     call: &Call<'_>,
     turns: u64,
-) -> Result<Outcome, RunError>
+) -> Result<Outcome, AllocError>
     ensures { IfOk result (λ outcome. outcome_in outcome ≡ spec.c_run (setting_in unit.now
         place.now call.now.barred) call.now.function.now call.now.arguments.now
         call.now.memory.now turns) }
@@ -94,15 +86,15 @@ pub fn run<'s, 'a>(
         place: *place,
         barred: call.barred,
     };
-    let mut after = attempt!(call.memory.copy(), RunError::NoMemory);
+    let mut after = attempt!(call.memory.copy());
     match run_body(alloc, &setting, call, &mut after, turns) {
         Ok(ended) => match ended {
             Ended::More => Ok(Outcome::More),
             Ended::Back(value) => Ok(Outcome::Back(value, after)),
         },
         Err(stop) => match stop {
-            Stop::Broke(guard, offset) => Ok(Outcome::Guard(guard, offset)),
-            Stop::Memory => Err(RunError::NoMemory),
+            Refusal::Fault(Stop::Broke(guard, offset)) => Ok(Outcome::Guard(guard, offset)),
+            Refusal::NoMemory => Err(AllocError),
         },
     }
 }

@@ -10,7 +10,7 @@ ghost use Rattle.c_run.specs.Machines.{IsBegun, IsCalled, IsEntered, IsReceived}
 
 use crate::frame::{Frame, Pause, Task};
 use crate::running::go;
-use attempt::attempt;
+use attempt::{Refusal, attempt};
 use c_run_value::setting::{Setting, Stop};
 use c_types::typed::Body;
 use c_types_core::constants::has_width;
@@ -136,7 +136,7 @@ fn receive(frame: &mut Frame<'_, '_>, value: Option<i128>) -> Result<(), TooWide
 fn give_back<'s, 'a>(
     setting: &Setting<'s, 'a>,
     machine: &mut Machine<'s, 'a>,
-) -> Result<Option<Ended>, Stop>
+) -> Result<Option<Ended>, Refusal<Stop>>
     ensures { Turned (setting_of setting.now) Pause.Ended machine.old machine.new result }
 {
     let value = machine.frame.given;
@@ -144,7 +144,7 @@ fn give_back<'s, 'a>(
         return Ok(Some(Ended::Back(value)));
     };
     machine.frame = caller;
-    attempt!(receive(&mut machine.frame, value), Stop::Memory);
+    attempt!(receive(&mut machine.frame, value), Refusal::NoMemory);
     Ok(None)
 }
 
@@ -180,7 +180,7 @@ fn call<'s, 'a>(
     alloc: Global,
     setting: &Setting<'s, 'a>,
     machine: &mut Machine<'s, 'a>,
-) -> Result<Option<Ended>, Stop>
+) -> Result<Option<Ended>, Refusal<Stop>>
     ensures { Turned (setting_of setting.now) Pause.Calls machine.old machine.new result }
 {
     if machine.left == 0 {
@@ -189,7 +189,7 @@ fn call<'s, 'a>(
     let Some(body) = body_named(setting, machine.frame.callee) else {
         return Ok(Some(Ended::More));
     };
-    attempt!(descend(alloc, machine, body), Stop::Memory);
+    attempt!(descend(alloc, machine, body), Refusal::NoMemory);
     Ok(None)
 }
 
@@ -200,7 +200,7 @@ fn turn<'s, 'a>(
     setting: &Setting<'s, 'a>,
     machine: &mut Machine<'s, 'a>,
     memory: &mut Memory,
-) -> Result<Option<Ended>, Stop>
+) -> Result<Option<Ended>, Refusal<Stop>>
     ensures { Turns (comes_to (setting_of setting.now) machine.old memory.old) (setting_of
         setting.now) machine.old machine.new memory.new result }
 {
@@ -217,7 +217,7 @@ pub fn drive<'s, 'a>(
     setting: &Setting<'s, 'a>,
     machine: &mut Machine<'s, 'a>,
     memory: &mut Memory,
-) -> Result<Ended, Stop>
+) -> Result<Ended, Refusal<Stop>>
     ensures { Ends (comes_to (setting_of setting.now) machine.old memory.old) memory.new result }
 {
     'turns: loop {

@@ -6,7 +6,7 @@ ghost use Rattle.c_run.specs.Tasks.{Goes, Proceeds, after_break, follows_body};
 
 use crate::frame::{Ending, Frame, Next, Pause, Task};
 use crate::statement::{act, holds};
-use attempt::attempt;
+use attempt::{Refusal, attempt};
 use c_run_value::setting::{Setting, Stop};
 use c_types_core::action::Action;
 use c_types_core::expression::Core;
@@ -18,14 +18,14 @@ fn rest<'s, 'a>(
     setting: &Setting<'s, 'a>,
     frame: &mut Frame<'s, 'a>,
     memory: &mut Memory,
-) -> Result<Next, Stop>
+) -> Result<Next, Refusal<Stop>>
     ensures { Proceeds (setting_of setting.now) (Task.Rest actions.entry) Ending.Went frame.old
         memory.old frame.new memory.new result }
 {
     let Some((first, others)) = actions.split_first() else {
         return Ok(Next::Goes(Ending::Went));
     };
-    attempt!(frame.push(Task::Rest(others)), Stop::Memory);
+    attempt!(frame.push(Task::Rest(others)), Refusal::NoMemory);
     act(first, setting, frame, memory)
 }
 
@@ -35,7 +35,7 @@ fn test_round<'s, 'a>(
     setting: &Setting<'s, 'a>,
     frame: &mut Frame<'s, 'a>,
     memory: &mut Memory,
-) -> Result<Next, Stop>
+) -> Result<Next, Refusal<Stop>>
     ensures { Proceeds (setting_of setting.now) (Task.Test test.entry) Ending.Went frame.old
         memory.old frame.new memory.new result }
 {
@@ -52,7 +52,7 @@ fn start<'s, 'a>(
     setting: &Setting<'s, 'a>,
     frame: &mut Frame<'s, 'a>,
     memory: &mut Memory,
-) -> Result<Next, Stop>
+) -> Result<Next, Refusal<Stop>>
     ensures { Proceeds (setting_of setting.now) task.entry Ending.Went frame.old memory.old
         frame.new memory.new result }
 {
@@ -93,7 +93,7 @@ fn proceed<'s, 'a>(
     setting: &Setting<'s, 'a>,
     frame: &mut Frame<'s, 'a>,
     memory: &mut Memory,
-) -> Result<Next, Stop>
+) -> Result<Next, Refusal<Stop>>
     ensures { Proceeds (setting_of setting.now) task.entry ending frame.old memory.old
         frame.new memory.new result }
 {
@@ -114,7 +114,7 @@ pub fn go<'s, 'a>(
     setting: &Setting<'s, 'a>,
     frame: &mut Frame<'s, 'a>,
     memory: &mut Memory,
-) -> Result<Pause, Stop>
+) -> Result<Pause, Refusal<Stop>>
     ensures { Goes (setting_of setting.now) frame.old memory.old frame.new memory.new result }
 {
     let mut ending = Ending::Went;
@@ -128,5 +128,5 @@ pub fn go<'s, 'a>(
             Next::Pauses(pause) => return Ok(pause),
         }
     }
-    Err(Stop::Memory)
+    Err(Refusal::NoMemory)
 }

@@ -14,7 +14,7 @@ ghost use Rattle.c_run.specs.Frames.{ArePushed, IsPassed};
 ghost use Rattle.c_run.specs.Groups.{picked, chosen_action};
 
 use crate::frame::{Ending, Frame, Next, Pause, Task};
-use attempt::attempt;
+use attempt::{Refusal, attempt};
 use c_run_spec::Guard;
 use c_run_value::access::store_object;
 use c_run_value::evaluation::{Scene, address_past, value};
@@ -32,7 +32,7 @@ pub fn value_in<'m, 's, 'a>(
     frame: &'m Frame<'s, 'a>,
     memory: &'m Memory,
     target: u64,
-) -> Result<i128, Stop>
+) -> Result<i128, Refusal<Stop>>
     ensures { GivesValue result (spec.value (setting_of setting.now) frame.now.locals.items
         memory.now target (core_of core.now)) }
 {
@@ -50,7 +50,7 @@ pub fn holds<'m, 's, 'a>(
     setting: &Setting<'s, 'a>,
     frame: &'m Frame<'s, 'a>,
     memory: &'m Memory,
-) -> Result<bool, Stop>
+) -> Result<bool, Refusal<Stop>>
     ensures { Gives (λ b. b) result (truth (spec.value (setting_of setting.now)
         frame.now.locals.items memory.now 0 (core_of test.now))) }
 {
@@ -64,11 +64,11 @@ fn block<'s, 'a>(
     setting: &Setting<'s, 'a>,
     frame: &mut Frame<'s, 'a>,
     memory: &mut Memory,
-) -> Result<Next, Stop>
+) -> Result<Next, Refusal<Stop>>
     ensures { Acts (setting_of setting.now) (tree.sequence (map action_of actions.now)) frame.old
         memory.old frame.new memory.new result }
 {
-    attempt!(frame.push(Task::Rest(actions)), Stop::Memory);
+    attempt!(frame.push(Task::Rest(actions)), Refusal::NoMemory);
     Ok(Next::Goes(Ending::Went))
 }
 
@@ -78,7 +78,7 @@ fn evaluate<'s, 'a>(
     setting: &Setting<'s, 'a>,
     frame: &mut Frame<'s, 'a>,
     memory: &mut Memory,
-) -> Result<Next, Stop>
+) -> Result<Next, Refusal<Stop>>
     ensures { Acts (setting_of setting.now) (tree.Evaluate (core_of core.now)) frame.old
         memory.old frame.new memory.new result }
 {
@@ -93,7 +93,7 @@ fn set<'s, 'a>(
     setting: &Setting<'s, 'a>,
     frame: &mut Frame<'s, 'a>,
     memory: &mut Memory,
-) -> Result<Next, Stop>
+) -> Result<Next, Refusal<Stop>>
     ensures { Acts (setting_of setting.now) (tree.Set local (core_of core.now)) frame.old
         memory.old frame.new memory.new result }
 {
@@ -108,7 +108,7 @@ fn unset<'s, 'a>(
     setting: &Setting<'s, 'a>,
     frame: &mut Frame<'s, 'a>,
     memory: &mut Memory,
-) -> Result<Next, Stop>
+) -> Result<Next, Refusal<Stop>>
     ensures { Acts (setting_of setting.now) (tree.Unset local) frame.old
         memory.old frame.new memory.new result }
 {
@@ -126,7 +126,7 @@ fn store<'s, 'a>(
     setting: &Setting<'s, 'a>,
     frame: &mut Frame<'s, 'a>,
     memory: &mut Memory,
-) -> Result<Next, Stop>
+) -> Result<Next, Refusal<Stop>>
     ensures { Acts (setting_of setting.now) (tree.Store of (core_of address.now) displacement
         (core_of core.now) offset) frame.old memory.old frame.new memory.new result }
 {
@@ -143,7 +143,7 @@ fn pass<'s, 'a>(
     setting: &Setting<'s, 'a>,
     frame: &mut Frame<'s, 'a>,
     memory: &Memory,
-) -> Result<(), Stop>
+) -> Result<(), Refusal<Stop>>
     ensures values { Gives (λ _. frame.new.arguments.items) result (spec.values (setting_of
         setting.now) frame.old.locals.items memory.now (map (λ b. core_of b.value) arguments.now)) }
     ensures same { IsPassed frame.old frame.new }
@@ -151,7 +151,7 @@ fn pass<'s, 'a>(
     frame.arguments.clear();
     for argument in arguments {
         let value = attempt!(value_in(argument, setting, frame, &*memory, 0));
-        attempt!(frame.arguments.push(value), Stop::Memory);
+        attempt!(frame.arguments.push(value), Refusal::NoMemory);
     }
     Ok(())
 }
@@ -165,7 +165,7 @@ fn call<'s, 'a>(
     setting: &Setting<'s, 'a>,
     frame: &mut Frame<'s, 'a>,
     memory: &mut Memory,
-) -> Result<Next, Stop>
+) -> Result<Next, Refusal<Stop>>
     ensures { Acts (setting_of setting.now) (tree.Call number function.now (map (λ b. core_of
         b.value) arguments.now) local) frame.old memory.old frame.new memory.new result }
 {
@@ -183,16 +183,16 @@ fn choose<'s, 'a>(
     setting: &Setting<'s, 'a>,
     frame: &mut Frame<'s, 'a>,
     memory: &mut Memory,
-) -> Result<Next, Stop>
+) -> Result<Next, Refusal<Stop>>
     ensures { Acts (setting_of setting.now) (tree.If (core_of test.now) (action_of first.now)
         (action_of second.now)) frame.old memory.old frame.new memory.new result }
 {
     let is_first = attempt!(holds(test, setting, frame, memory));
     if is_first {
-        attempt!(frame.push(Task::Do(first)), Stop::Memory);
+        attempt!(frame.push(Task::Do(first)), Refusal::NoMemory);
         return Ok(Next::Goes(Ending::Went));
     }
-    attempt!(frame.push(Task::Do(second)), Stop::Memory);
+    attempt!(frame.push(Task::Do(second)), Refusal::NoMemory);
     Ok(Next::Goes(Ending::Went))
 }
 
@@ -241,17 +241,23 @@ fn repeat<'s, 'a>(
     setting: &Setting<'s, 'a>,
     frame: &mut Frame<'s, 'a>,
     memory: &mut Memory,
-) -> Result<Next, Stop>
+) -> Result<Next, Refusal<Stop>>
     ensures { Repeats (setting_of setting.now) place action.entry test.entry step.entry body.entry
         frame.old memory.old frame.new memory.new result }
 {
     match place {
         TestPlace::Before => {
-            attempt!(test_first(action, test, step, body, frame), Stop::Memory);
+            attempt!(
+                test_first(action, test, step, body, frame),
+                Refusal::NoMemory
+            );
             Ok(Next::Pauses(Pause::Waits))
         }
         TestPlace::After => {
-            attempt!(test_last(action, test, step, body, frame), Stop::Memory);
+            attempt!(
+                test_last(action, test, step, body, frame),
+                Refusal::NoMemory
+            );
             Ok(Next::Pauses(Pause::Waits))
         }
     }
@@ -263,7 +269,7 @@ fn give_back<'s, 'a>(
     setting: &Setting<'s, 'a>,
     frame: &mut Frame<'s, 'a>,
     memory: &mut Memory,
-) -> Result<Next, Stop>
+) -> Result<Next, Refusal<Stop>>
     ensures { Acts (setting_of setting.now) (tree.Return (core_in value.now)) frame.old
         memory.old frame.new memory.new result }
 {
@@ -335,7 +341,7 @@ fn switch<'s, 'a>(
     setting: &Setting<'s, 'a>,
     frame: &mut Frame<'s, 'a>,
     memory: &mut Memory,
-) -> Result<Next, Stop>
+) -> Result<Next, Refusal<Stop>>
     ensures { Acts (setting_of setting.now) (tree.Switch (core_of test.now) (groups_in (map
         group_of groups.now))) frame.old memory.old frame.new memory.new result }
 {
@@ -343,8 +349,8 @@ fn switch<'s, 'a>(
     let Some(action) = chosen(groups, value) else {
         return Ok(Next::Goes(Ending::Went));
     };
-    attempt!(frame.push(Task::Switch), Stop::Memory);
-    attempt!(frame.push(Task::Do(action)), Stop::Memory);
+    attempt!(frame.push(Task::Switch), Refusal::NoMemory);
+    attempt!(frame.push(Task::Do(action)), Refusal::NoMemory);
     Ok(Next::Goes(Ending::Went))
 }
 
@@ -365,7 +371,7 @@ pub fn act<'s, 'a>(
     setting: &Setting<'s, 'a>,
     frame: &mut Frame<'s, 'a>,
     memory: &mut Memory,
-) -> Result<Next, Stop>
+) -> Result<Next, Refusal<Stop>>
     ensures { Acts (setting_of setting.now) (action_of action.now) frame.old memory.old frame.new
         memory.new result }
 {
@@ -394,6 +400,9 @@ pub fn act<'s, 'a>(
         Action::Leave(jump) => Ok(Next::Goes(ending_of(*jump))),
         Action::Switch(test, groups) => switch(test, groups, setting, frame, memory),
         Action::Return(value) => give_back(value, setting, frame, memory),
-        Action::MissingReturn(offset) => Err(Stop::Broke(Guard::MissingReturn, *offset)),
+        Action::MissingReturn(offset) => Err(Refusal::Fault(Stop::Broke(
+            Guard::MissingReturn,
+            *offset,
+        ))),
     }
 }

@@ -5,6 +5,7 @@ use Rattle.c_types_spec.specs.Values.{same_value}
 use Rattle.c_run_spec.specs.Evaluation.{Evaluated, on_result, value}
 use Rattle.c_run_value.specs.declared.evaluation.Scene.{Scene}
 use Rattle.c_run_value.specs.declared.setting.Setting.{Setting}
+use Rattle.attempt.specs.declared.refusal.Refusal.{Refusal}
 use Rattle.c_run_value.specs.declared.setting.Stop.{Stop}
 use Rattle.c_run_value.specs.Settings.{setting_of}
 use Rattle.c_run_value.specs.Gives.{GivesValue}
@@ -18,5 +19,5 @@ chosen_in setting scene test first second =
     on_result (value_in setting scene test) (λ t. if same_value t (pos 0) then value_in setting scene second else value_in setting scene first)
 
 -- the result is the value of the expression, or the guard that it breaks
-abbrev pub Evaluates : Setting → Scene → Result ℤ Stop → Core → Type 0
+abbrev pub Evaluates : Setting → Scene → Result ℤ (Refusal Stop) → Core → Type 0
 Evaluates setting scene result core = GivesValue result (value_in setting scene core)

@@ -10,7 +10,7 @@ ghost use Rattle.c_run_value.specs.Settings.{setting_of, zone_of};
 ghost use Rattle.c_run_value.specs.Gives.{Gives, GivesValue, IsKept, IsSize};
 
 use crate::setting::{Setting, Stop, Zone, is_fixed, is_in_zone};
-use attempt::attempt;
+use attempt::{Refusal, attempt};
 use c_run_spec::Guard;
 use c_types_core::values::convert;
 use c_types_spec::Scalar;
@@ -127,7 +127,12 @@ fn bytes_at(size: u32, memory: &Memory, address: u64) -> u64
 
 /// Writes so many bytes of a number, the lowest first.
 #[tactic(auto, using(crate::proofs::Steps::with_steps))]
-fn store_bytes(size: u32, memory: &mut Memory, address: u64, number: u64) -> Result<(), Stop>
+fn store_bytes(
+    size: u32,
+    memory: &mut Memory,
+    address: u64,
+    number: u64,
+) -> Result<(), Refusal<Stop>>
     requires { address + size ≤ 2 ^ 32 }
     ensures { Gives (λ _. memory.new) result (Ok (spec.with_bytes memory.old size address number)) }
 {
@@ -136,13 +141,13 @@ fn store_bytes(size: u32, memory: &mut Memory, address: u64, number: u64) -> Res
     }
     match memory.put(address as u32, (number % 256) as u8) {
         Ok(()) => store_bytes(size - 1, memory, address + 1, number / 256),
-        Err(_) => Err(Stop::Memory),
+        Err(_) => Err(Refusal::NoMemory),
     }
 }
 
 /// The low bits of a value.
 #[tactic(auto, using(crate::proofs::Bits::low_bits))]
-fn bits_of(of: Scalar, value: i128) -> Result<u64, Stop>
+fn bits_of(of: Scalar, value: i128) -> Result<u64, Refusal<Stop>>
     requires low { 8 ≤ of.width }
     requires high { of.width ≤ 64 }
     ensures { Gives (λ bits. bits) result (Ok (rule.bits_of of.width value)) }
@@ -153,7 +158,7 @@ fn bits_of(of: Scalar, value: i128) -> Result<u64, Stop>
     };
     match u64::try_from(convert(value, plain)) {
         Ok(bits) => Ok(bits),
-        Err(_) => Err(Stop::Memory),
+        Err(_) => Err(Refusal::NoMemory),
     }
 }
 
@@ -176,15 +181,15 @@ pub fn object_value(
     of: Scalar,
     address: u64,
     offset: usize,
-) -> Result<i128, Stop>
+) -> Result<i128, Refusal<Stop>>
     ensures { GivesValue result (spec.object_value (setting_of setting.now) memory.now of address
         offset) }
 {
     let Some(size) = size_of(of) else {
-        return Err(Stop::Memory);
+        return Err(Refusal::NoMemory);
     };
     match read_guard(setting, size, address) {
-        Some(guard) => Err(Stop::Broke(guard, offset)),
+        Some(guard) => Err(Refusal::Fault(Stop::Broke(guard, offset))),
         None => Ok(of_bits(of, bytes_at(size, memory, address))),
     }
 }
@@ -198,23 +203,23 @@ pub fn store_object(
     address: u64,
     value: i128,
     offset: usize,
-) -> Result<(), Stop>
+) -> Result<(), Refusal<Stop>>
     ensures exact { Gives (λ _. memory.new) result
         (spec.stored (setting_of setting.now) memory.old of
         address value offset) }
     ensures kept { IsKept memory.old memory.new result }
 {
     let Some(size) = size_of(of) else {
-        return Err(Stop::Memory);
+        return Err(Refusal::NoMemory);
     };
     match write_guard(setting, size, address) {
-        Some(guard) => Err(Stop::Broke(guard, offset)),
+        Some(guard) => Err(Refusal::Fault(Stop::Broke(guard, offset))),
         None => match bits_of(of, value) {
             Ok(bits) => match store_bytes(size, memory, address, bits) {
                 Ok(()) => Ok(()),
-                Err(_) => Err(Stop::Memory),
+                Err(_) => Err(Refusal::NoMemory),
             },
-            Err(_) => Err(Stop::Memory),
+            Err(_) => Err(Refusal::NoMemory),
         },
     }
 }

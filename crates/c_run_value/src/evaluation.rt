@@ -13,7 +13,7 @@ ghost use Rattle.c_run_value.specs.Scenes.{Evaluates, chosen_in};
 
 use crate::access::object_value;
 use crate::setting::{Setting, Stop, global_address};
-use attempt::attempt;
+use attempt::{Refusal, attempt};
 use c_run_spec::Guard;
 use c_types_core::constants::{WORD, has_width};
 use c_types_core::expression::Core;
@@ -33,7 +33,7 @@ pub struct Scene<'m> {
 }
 
 /// The address that the value of a pointer is.
-pub fn address_of(value: i128) -> Result<u64, Stop>
+pub fn address_of(value: i128) -> Result<u64, Refusal<Stop>>
     ensures { Gives (λ address. address) result (Ok (accesses.address_of value)) }
 {
     if value < 0 {
@@ -41,18 +41,18 @@ pub fn address_of(value: i128) -> Result<u64, Stop>
     }
     match u64::try_from(value) {
         Ok(address) => Ok(address),
-        Err(_) => Err(Stop::Memory),
+        Err(_) => Err(Refusal::NoMemory),
     }
 }
 
 /// The address so many bytes past the value of a pointer.
-pub fn address_past(value: i128, displacement: usize) -> Result<u64, Stop>
+pub fn address_past(value: i128, displacement: usize) -> Result<u64, Refusal<Stop>>
     ensures { Gives (λ address. address) result (Ok (accesses.address_of value + displacement)) }
 {
     let address = attempt!(address_of(value));
     match address.checked_add(displacement as u64) {
         Some(past) => Ok(past),
-        None => Err(Stop::Memory),
+        None => Err(Refusal::NoMemory),
     }
 }
 
@@ -67,22 +67,22 @@ fn global_value(setting: &Setting<'_, '_>, name: &[u8]) -> i128
 
 /// The value of a local.
 #[tactic(auto, unfolding(c_run_spec::specs::Evaluation::local_value))]
-fn local_value(locals: &[Option<i128>], local: usize, offset: usize) -> Result<i128, Stop>
+fn local_value(locals: &[Option<i128>], local: usize, offset: usize) -> Result<i128, Refusal<Stop>>
     ensures { GivesValue result (spec.local_value (slice_get locals.now local) offset) }
 {
     match locals.get(local) {
         Some(Some(value)) => Ok(*value),
-        Some(None) => Err(Stop::Broke(Guard::UnsetLocal, offset)),
-        None => Err(Stop::Broke(Guard::UnsetLocal, offset)),
+        Some(None) => Err(Refusal::Fault(Stop::Broke(Guard::UnsetLocal, offset))),
+        None => Err(Refusal::Fault(Stop::Broke(Guard::UnsetLocal, offset))),
     }
 }
 
 /// A value in another type.
-fn converted(of: Scalar, value: i128) -> Result<i128, Stop>
+fn converted(of: Scalar, value: i128) -> Result<i128, Refusal<Stop>>
     ensures { GivesValue result (Ok (rule.converted of value)) }
 {
     if !has_width(of) {
-        return Err(Stop::Memory);
+        return Err(Refusal::NoMemory);
     }
     Ok(convert(value, of))
 }
@@ -107,28 +107,28 @@ fn operated(
     left: i128,
     right: i128,
     offset: usize,
-) -> Result<i128, Stop>
+) -> Result<i128, Refusal<Stop>>
     ensures { GivesValue result (spec.operated operator of left right offset) }
 {
     if !has_width(of) {
-        return Err(Stop::Memory);
+        return Err(Refusal::NoMemory);
     }
     match arithmetic_value(operator, of, left, right) {
         Ok(Some(value)) => Ok(value),
-        Ok(None) => Err(Stop::Broke(guard_of(operator), offset)),
-        Err(_) => Err(Stop::Memory),
+        Ok(None) => Err(Refusal::Fault(Stop::Broke(guard_of(operator), offset))),
+        Err(_) => Err(Refusal::NoMemory),
     }
 }
 
 /// A comparison of two values.
-fn compared(operator: Comparison, left: i128, right: i128) -> Result<i128, Stop>
+fn compared(operator: Comparison, left: i128, right: i128) -> Result<i128, Refusal<Stop>>
     ensures { GivesValue result (Ok (rule.comparison_value operator left right)) }
 {
     Ok(comparison_value(operator, left, right))
 }
 
 /// A pointer and a distance added, or subtracted.
-fn sum_of(direction: Direction, pointer: i128, distance: i128) -> Result<i128, Stop>
+fn sum_of(direction: Direction, pointer: i128, distance: i128) -> Result<i128, Refusal<Stop>>
     ensures { Gives (λ sum. sum) result (Ok (spec.sum_of direction pointer distance)) }
 {
     let sum = match direction {
@@ -137,7 +137,7 @@ fn sum_of(direction: Direction, pointer: i128, distance: i128) -> Result<i128, S
     };
     match sum {
         Some(sum) => Ok(sum),
-        None => Err(Stop::Memory),
+        None => Err(Refusal::NoMemory),
     }
 }
 
@@ -156,45 +156,45 @@ fn moved(
     pointer: i128,
     index: i128,
     offset: usize,
-) -> Result<i128, Stop>
+) -> Result<i128, Refusal<Stop>>
     ensures { GivesValue result (spec.moved direction size pointer index offset) }
 {
     let Some(distance) = index.checked_mul(size as i128) else {
-        return Err(Stop::Memory);
+        return Err(Refusal::NoMemory);
     };
     let sum = attempt!(sum_of(direction, pointer, distance));
     if is_pointer(sum) {
         Ok(sum)
     } else {
-        Err(Stop::Broke(Guard::PointerRange, offset))
+        Err(Refusal::Fault(Stop::Broke(Guard::PointerRange, offset)))
     }
 }
 
 /// An index below a bound.
 #[tactic(auto, unfolding(c_run_spec::specs::Evaluation::within))]
-fn within(bound: usize, index: i128, offset: usize) -> Result<i128, Stop>
+fn within(bound: usize, index: i128, offset: usize) -> Result<i128, Refusal<Stop>>
     ensures { GivesValue result (spec.within bound index offset) }
 {
     if 0 <= index && index < bound as i128 {
         Ok(index)
     } else {
-        Err(Stop::Broke(Guard::Index, offset))
+        Err(Refusal::Fault(Stop::Broke(Guard::Index, offset)))
     }
 }
 
 /// A pointer at a multiple of an alignment.
 #[tactic(auto, unfolding(c_run_spec::specs::Evaluation::aligned))]
-fn aligned(alignment: usize, pointer: i128, offset: usize) -> Result<i128, Stop>
+fn aligned(alignment: usize, pointer: i128, offset: usize) -> Result<i128, Refusal<Stop>>
     ensures { GivesValue result (spec.aligned alignment pointer offset) }
 {
     let address = attempt!(address_of(pointer));
     if alignment == 0 {
-        return Err(Stop::Memory);
+        return Err(Refusal::NoMemory);
     }
     if address != 0 && address % alignment as u64 == 0 {
         Ok(pointer)
     } else {
-        Err(Stop::Broke(Guard::Access, offset))
+        Err(Refusal::Fault(Stop::Broke(Guard::Access, offset)))
     }
 }
 
@@ -210,7 +210,7 @@ fn load(
     of: Scalar,
     displacement: usize,
     offset: usize,
-) -> Result<i128, Stop>
+) -> Result<i128, Refusal<Stop>>
     ensures { Evaluates setting.now scene.now result (core.Load of (core_of address.now)
         displacement offset) }
 {
@@ -230,7 +230,7 @@ fn operate(
     operator: Arithmetic,
     of: Scalar,
     offset: usize,
-) -> Result<i128, Stop>
+) -> Result<i128, Refusal<Stop>>
     ensures { Evaluates setting.now scene.now result (core.Operate operator of (core_of left.now)
         (core_of right.now) offset) }
 {
@@ -248,7 +248,7 @@ fn compare(
     setting: &Setting<'_, '_>,
     scene: &Scene<'_>,
     operator: Comparison,
-) -> Result<i128, Stop>
+) -> Result<i128, Refusal<Stop>>
     ensures { Evaluates setting.now scene.now result (core.Compare operator (core_of left.now)
         (core_of right.now)) }
 {
@@ -269,7 +269,7 @@ fn move_pointer(
     order: Order,
     size: usize,
     offset: usize,
-) -> Result<i128, Stop>
+) -> Result<i128, Refusal<Stop>>
     ensures { Evaluates setting.now scene.now result (core.Move direction order size (core_of
         pointer.now) (core_of index.now) offset) }
 {
@@ -296,7 +296,7 @@ fn choose(
     second: &Core<'_>,
     setting: &Setting<'_, '_>,
     scene: &Scene<'_>,
-) -> Result<i128, Stop>
+) -> Result<i128, Refusal<Stop>>
     ensures { GivesValue result (chosen_in setting.now scene.now (core_of test.now) (core_of
         first.now) (core_of second.now)) }
 {
@@ -316,7 +316,7 @@ fn convert_value(
     setting: &Setting<'_, '_>,
     scene: &Scene<'_>,
     of: Scalar,
-) -> Result<i128, Stop>
+) -> Result<i128, Refusal<Stop>>
     ensures { Evaluates setting.now scene.now result (core.Convert of (core_of operand.now)) }
 {
     let number = attempt!(value(operand, setting, scene));
@@ -332,7 +332,7 @@ fn bounded(
     scene: &Scene<'_>,
     bound: usize,
     offset: usize,
-) -> Result<i128, Stop>
+) -> Result<i128, Refusal<Stop>>
     ensures { Evaluates setting.now scene.now result (core.Within bound (core_of index.now)
         offset) }
 {
@@ -349,7 +349,7 @@ fn at_alignment(
     scene: &Scene<'_>,
     alignment: usize,
     offset: usize,
-) -> Result<i128, Stop>
+) -> Result<i128, Refusal<Stop>>
     ensures { Evaluates setting.now scene.now result (core.Aligned alignment (core_of pointer.now)
         offset) }
 {
@@ -360,7 +360,11 @@ fn at_alignment(
 /// The value of an expression, or the first guard that it breaks.
 #[cycle(values)]
 #[tactic(auto, using(c_types_core::proofs::Views::views), unfolding(c_run_spec::specs::Evaluation::value))]
-pub fn value(x: &Core<'_>, setting: &Setting<'_, '_>, scene: &Scene<'_>) -> Result<i128, Stop>
+pub fn value(
+    x: &Core<'_>,
+    setting: &Setting<'_, '_>,
+    scene: &Scene<'_>,
+) -> Result<i128, Refusal<Stop>>
     ensures { Evaluates setting.now scene.now result (core_of x.now) }
 {
     match x {

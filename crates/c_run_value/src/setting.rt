@@ -46,14 +46,11 @@ pub struct Setting<'s, 'a> {
     pub barred: Zone,
 }
 
-/// Why a run has no value or outcome.
+/// Why a run stops short.
 #[derive(Clone, Copy)]
 pub enum Stop {
     /// It breaks a guard, reported at an offset.
     Broke(Guard, usize),
-    /// Out of memory, or a value is wider than the program computes with, which those of a typed
-    /// core are not.
-    Memory,
 }
 
 /// The address of a global, or 0.

@@ -16,9 +16,10 @@ mod number;
 mod piece;
 mod word;
 
+use attempt::Refusal;
 use c_token_spec::token::{Keyword, NumberType, Punctuator, TokenFaultKind};
 use piece::{Piece, first_piece};
-use std::alloc::{AllocFailed, Global};
+use std::alloc::Global;
 
 /// What a token is.
 #[derive(Clone, Copy)]
@@ -53,35 +54,16 @@ pub struct TokenFault {
     pub offset: usize,
 }
 
-/// Why a text's tokens were not read.
-#[derive(Clone, Copy)]
-pub enum TokenError {
-    /// The text has no tokens: its first fault.
-    Fault(TokenFault),
-    /// Out of memory.
-    NoMemory,
-}
-
-impl From<AllocFailed<Token<'_>>> for TokenError {
-    ghost use Rattle.c_token.specs.declared.TokenError.TheVariants.{NoMemory};
-
-    ghost from_gives = { λ _ error. error ≡ NoMemory };
-
-    fn from(_: AllocFailed<Token<'_>>) -> Self {
-        TokenError::NoMemory
-    }
-}
-
 /// The tokens of a text, in order, in work linear in its bytes; or its first fault. It refuses a
 /// byte that begins no token, a number or a character constant that is none, and a comment that is
 /// not closed.
-pub fn tokens<'a>(alloc: Global, text: &'a [u8]) -> Result<Vec<Token<'a>>, TokenError>
+pub fn tokens<'a>(alloc: Global, text: &'a [u8]) -> Result<Vec<Token<'a>>, Refusal<TokenFault>>
     ensures found { IfOk result (λ tokens. AreTokens text.now (map placed_of tokens.items)) }
     ensures same { IfOk result (λ tokens. (placed : List Placed) → AreTokens text.now placed →
         placed ≡ map placed_of tokens.items) }
     ensures fault { IfErr result (λ error. IsFaultOf text.now error) }
     ensures only { IfErr result (λ error. (placed : List Placed) → AreTokens text.now placed → error
-        ≡ TokenError.NoMemory) }
+        ≡ Refusal.NoMemory) }
 {
     let mut tokens = Vec::new(alloc);
     let mut offset = 0;
@@ -101,7 +83,7 @@ pub fn tokens<'a>(alloc: Global, text: &'a [u8]) -> Result<Vec<Token<'a>>, Token
                 fresh = false;
             }
             Piece::Fault(kind) => {
-                return Err(TokenError::Fault(TokenFault { kind, offset }));
+                return Err(Refusal::Fault(TokenFault { kind, offset }));
             }
         }
     }

@@ -18,8 +18,10 @@ use Rattle.c_types.specs.declared.typed.FunctionType.{FunctionType}
 use Rattle.c_types.specs.declared.typed.Body.{Body}
 use Rattle.c_types.specs.declared.typed.Counts.{Counts}
 use Rattle.c_types.specs.declared.typed.Typed.{Typed}
-use Rattle.c_types.specs.declared.typed.TypeError.{TypeError}
-use Rattle.c_types.specs.declared.typed.TypeError.TheVariants as error
+use Rattle.attempt.specs.declared.refusal.Refusal.{Refusal}
+use Rattle.attempt.specs.declared.refusal.Refusal.TheVariants as refusal
+use Rattle.c_types_core.specs.declared.fault.TypeFault.{TypeFault}
+use Rattle.c_types_core.specs.declared.fault.TypeFault.TheVariants as error
 
 abbrev pub function_type_of : FunctionType → core.FunctionType
 function_type_of type = record { parameters = type.parameters.items; result = type.returned }
@@ -50,10 +52,10 @@ typed_of typed = record {
 }
 
 -- the program gives what the definition gives; memory may be refused at any time
-abbrev pub IsChecked : Result Typed TypeError → Result core.Typed Fault → Type 0
+abbrev pub IsChecked : Result Typed (Refusal TypeFault) → Result core.Typed Fault → Type 0
 IsChecked (Ok typed) given = given ≡ Ok (typed_of typed)
-IsChecked (Err error.NoMemory) given = Unit {0}
-IsChecked (Err (error.Fault kind offset)) given = given ≡ Err (kind, offset)
+IsChecked (Err refusal.NoMemory) given = Unit {0}
+IsChecked (Err (refusal.Fault (error.At kind offset))) given = given ≡ Err (kind, offset)
 
 -- ---- look-ups
 

@@ -15,7 +15,7 @@ ghost use Rattle.c_types.specs.Functions as specs;
 
 use crate::parameters::parameters;
 use crate::typed::{Body, FunctionType};
-use attempt::attempt;
+use attempt::{Refusal, attempt};
 use c_syntax::statement::Part;
 use c_syntax::unit::FunctionDeclarator;
 use c_types_core::action::Action;
@@ -41,7 +41,7 @@ fn signature(
     parameters: Vec<CType>,
     pointers: usize,
     base: &CType,
-) -> Result<Box<Signature>, TypeFault>
+) -> Result<Box<Signature>, Refusal<TypeFault>>
     ensures { Gives (λ s. signature_of s.value) result (Ok (rule.signature_of (types_in
         parameters) (expressions.pointers_to pointers (type_of base.now)))) }
 {
@@ -55,13 +55,13 @@ fn signature(
         },
     ) {
         Ok(made) => Ok(made),
-        Err(_) => Err(TypeFault::Memory),
+        Err(_) => Err(Refusal::NoMemory),
     }
 }
 
 /// The scalars among types, after those so far.
 #[tactic(auto, using(crate::proofs::Lists::scalar_lists))]
-fn scalars(types: &[CType], found: &mut Vec<Scalar>) -> Result<(), TypeFault>
+fn scalars(types: &[CType], found: &mut Vec<Scalar>) -> Result<(), Refusal<TypeFault>>
     ensures { Gives (λ _. found.new.items) result
         (Ok (found.old.items ++ rule.scalars_of (map type_of
         types.now))) }
@@ -76,7 +76,7 @@ fn scalars(types: &[CType], found: &mut Vec<Scalar>) -> Result<(), TypeFault>
 }
 
 /// The types of a function in the typed core.
-fn function_type(alloc: Global, of: &Signature) -> Result<Box<FunctionType>, TypeFault>
+fn function_type(alloc: Global, of: &Signature) -> Result<Box<FunctionType>, Refusal<TypeFault>>
     ensures { Gives (λ t. function_type_of t.value) result (Ok (rule.function_type (signature_of
         of.now))) }
 {
@@ -91,7 +91,7 @@ fn function_type(alloc: Global, of: &Signature) -> Result<Box<FunctionType>, Typ
         },
     ) {
         Ok(made) => Ok(made),
-        Err(_) => Err(TypeFault::Memory),
+        Err(_) => Err(Refusal::NoMemory),
     }
 }
 
@@ -102,7 +102,7 @@ pub fn declared_function<'a>(
     given: &FunctionDeclarator<'a>,
     base: &CType,
     state: &mut State<'a>,
-) -> Result<(), TypeFault>
+) -> Result<(), Refusal<TypeFault>>
     ensures { Runs nothing result state.new (rule.declared_function (function_of given.now) (type_of
         base.now) (state_of state.old)) }
 {
@@ -115,7 +115,11 @@ pub fn declared_function<'a>(
 }
 
 /// What is done at the `}` of a body.
-fn at_end<'a>(alloc: Global, returned: &CType, close: usize) -> Result<Box<Action<'a>>, TypeFault>
+fn at_end<'a>(
+    alloc: Global,
+    returned: &CType,
+    close: usize,
+) -> Result<Box<Action<'a>>, Refusal<TypeFault>>
     ensures { Gives action_in result (Ok (rule.at_end (type_of returned.now) close)) }
 {
     if is_void(returned) {
@@ -127,13 +131,13 @@ fn at_end<'a>(alloc: Global, returned: &CType, close: usize) -> Result<Box<Actio
 
 /// The globals that the body that has been read names.
 #[tactic(auto, unfolding(c_types_scope::specs::States::state_of))]
-fn mentions<'a>(alloc: Global, state: &State<'a>) -> Result<Vec<&'a [u8]>, TypeFault>
+fn mentions<'a>(alloc: Global, state: &State<'a>) -> Result<Vec<&'a [u8]>, Refusal<TypeFault>>
     ensures { Gives texts_in result (Ok (state_of state.now).mentions) }
 {
     let mut names = Vec::new(alloc);
     match names.extend_from_slice(state.mentions.as_slice()) {
         Ok(()) => Ok(names),
-        Err(_) => Err(TypeFault::Memory),
+        Err(_) => Err(Refusal::NoMemory),
     }
 }
 
@@ -145,7 +149,7 @@ fn body<'a>(
     signature: Box<FunctionType>,
     action: Box<Action<'a>>,
     state: &State<'a>,
-) -> Result<Box<Body<'a>>, TypeFault>
+) -> Result<Box<Body<'a>>, Refusal<TypeFault>>
     ensures { Gives (λ b. body_of b.value) result (Ok (specs.body_made name.now (function_type_of
         signature.value) (action_in action.entry) (state_of state.now))) }
 {
@@ -164,7 +168,7 @@ fn body<'a>(
     };
     match Box::new(alloc, made) {
         Ok(made) => Ok(made),
-        Err(_) => Err(TypeFault::Memory),
+        Err(_) => Err(Refusal::NoMemory),
     }
 }
 
@@ -175,7 +179,7 @@ fn action<'a>(
     context: Context<'_>,
     close: usize,
     state: &mut State<'a>,
-) -> Result<Box<Action<'a>>, TypeFault>
+) -> Result<Box<Action<'a>>, Refusal<TypeFault>>
     ensures { Runs action_in result state.new (specs.action (parts_of (map part_of list.now))
         (context_of context.entry) close (state_of state.old)) }
 {
@@ -196,7 +200,7 @@ fn function_of_types<'a>(
     list: &[Part<'a>],
     close: usize,
     state: &mut State<'a>,
-) -> Result<Box<Body<'a>>, TypeFault>
+) -> Result<Box<Body<'a>>, Refusal<TypeFault>>
     ensures { Runs (λ b. body_of b.value) result state.new (specs.function_of_types (function_of
         given.now) (types_in types) (type_of base.now) (parts_of (map part_of list.now)) close
         (state_of state.old)) }
@@ -228,7 +232,7 @@ fn function_body<'a>(
     list: &[Part<'a>],
     close: usize,
     state: &mut State<'a>,
-) -> Result<Box<Body<'a>>, TypeFault>
+) -> Result<Box<Body<'a>>, Refusal<TypeFault>>
     ensures { Runs (λ b. body_of b.value) result state.new (specs.function_body (function_of
         given.now) (type_of base.now) (parts_of (map part_of list.now)) close (state_of
         state.old)) }
@@ -248,7 +252,7 @@ pub fn defined_function<'a>(
     list: &[Part<'a>],
     close: usize,
     state: &mut State<'a>,
-) -> Result<Box<Body<'a>>, TypeFault>
+) -> Result<Box<Body<'a>>, Refusal<TypeFault>>
     ensures { Runs (λ b. body_of b.value) result state.new (rule.defined_function (function_of
         given.now) (type_of base.now) (parts_of (map part_of list.now)) close (state_of
         state.old)) }

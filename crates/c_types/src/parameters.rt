@@ -8,7 +8,7 @@ ghost use Rattle.c_types_scope.specs.Meanings.{types_in};
 ghost use Rattle.c_types_scope.specs.States.{state_of, Runs};
 ghost use Rattle.c_types_spec.specs.Units as rule;
 
-use attempt::attempt;
+use attempt::{Refusal, attempt};
 use c_syntax::unit::Parameter;
 use c_types_core::fault::TypeFault;
 use c_types_declaration::declare::parameter;
@@ -26,7 +26,7 @@ fn declared_parameter<'a>(
     given: &Parameter<'a>,
     has_body: bool,
     state: &mut State<'a>,
-) -> Result<CType, TypeFault>
+) -> Result<CType, Refusal<TypeFault>>
     ensures { Runs type_of result state.new
         (rule.declared_parameter (parameter_of given.now) has_body
         (state_of state.old)) }
@@ -56,7 +56,7 @@ pub fn parameters<'a>(
     has_body: bool,
     types: &mut Vec<CType>,
     state: &mut State<'a>,
-) -> Result<(), TypeFault>
+) -> Result<(), Refusal<TypeFault>>
     ensures { Runs (λ _. types_in types.new) result state.new (rule.parameters (map parameter_of
         (unboxed list.now)) has_body (types_in types.old) (state_of state.old)) }
 {

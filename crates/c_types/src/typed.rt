@@ -11,20 +11,12 @@ ghost use Rattle.c_types.specs.Typed.{AreDistinct, body_in, body_of_name, counts
 ghost use Rattle.c_types.specs.Typed.{function_in, global_at, global_in, global_of, typed_of};
 
 use c_types_core::action::Action;
+pub use c_types_core::fault::TypeFault;
 use c_types_layout::structs::Definition;
 use c_types_layout::types::CType;
 use c_types_scope::meaning::{Meaning, Signature};
-use c_types_spec::{Scalar, TypeFaultKind};
+use c_types_spec::Scalar;
 use indexmap::IndexMap;
-
-/// Why a unit has no typed core.
-#[derive(Clone, Copy)]
-pub enum TypeError {
-    /// Its first fault: the kind, and the offset of the token at fault in bytes.
-    Fault(TypeFaultKind, usize),
-    /// Out of memory.
-    NoMemory,
-}
 
 /// The types of values that a call of a function gives it, and of its result, or none.
 #[derive(Drop)]

@@ -11,8 +11,8 @@ ghost use Rattle.c_types_spec.specs.Units as rule;
 ghost use Rattle.c_types.specs.Typed.{IsChecked, bodies_of, body_of, typed_of};
 
 use crate::functions::{declared_function, defined_function};
-use crate::typed::{Body, TypeError, Typed};
-use attempt::attempt;
+use crate::typed::{Body, Typed};
+use attempt::{Refusal, attempt};
 use c_syntax::expression::Declarator;
 use c_syntax::unit::{ExternalDeclaration, Global as Declared, TranslationUnit};
 use c_types_core::fault::TypeFault;
@@ -31,7 +31,7 @@ fn declared_object<'a>(
     base: &CType,
     is_typedef: bool,
     state: &mut State<'a>,
-) -> Result<(), TypeFault>
+) -> Result<(), Refusal<TypeFault>>
     ensures { Runs nothing result state.new (rule.declared_object (declarator_of given.now) (type_of
         base.now) is_typedef (state_of state.old)) }
 {
@@ -51,7 +51,7 @@ fn global<'a>(
     base: &CType,
     is_typedef: bool,
     state: &mut State<'a>,
-) -> Result<(), TypeFault>
+) -> Result<(), Refusal<TypeFault>>
     ensures { Runs nothing result state.new (rule.global (global_of given.now) (type_of base.now)
         is_typedef (state_of state.old)) }
 {
@@ -69,7 +69,7 @@ fn globals<'a>(
     base: &CType,
     is_typedef: bool,
     state: &mut State<'a>,
-) -> Result<(), TypeFault>
+) -> Result<(), Refusal<TypeFault>>
     ensures { Runs nothing result state.new
         (rule.globals (map global_of (unboxed list.now)) (type_of
         base.now) is_typedef (state_of state.old)) }
@@ -84,14 +84,14 @@ fn globals<'a>(
 fn push_body<'a>(
     bodies: &mut IndexMap<&'a [u8], Body<'a>>,
     body: Box<Body<'a>>,
-) -> Result<(), TypeFault>
+) -> Result<(), Refusal<TypeFault>>
     ensures { Gives (λ _. bodies_of bodies.new.entries) result (Ok (bodies_of bodies.old.entries
         ++ body_of body.entry.value ∷ [])) }
 {
     let body = Box::into_inner(body);
     match bodies.insert(body.name, body) {
         Ok(None) => Ok(()),
-        Ok(Some(_)) | Err(_) => Err(TypeFault::Memory),
+        Ok(Some(_)) | Err(_) => Err(Refusal::NoMemory),
     }
 }
 
@@ -102,7 +102,7 @@ fn external_declaration<'a>(
     given: &ExternalDeclaration<'a>,
     bodies: &mut IndexMap<&'a [u8], Body<'a>>,
     state: &mut State<'a>,
-) -> Result<(), TypeFault>
+) -> Result<(), Refusal<TypeFault>>
     ensures { Runs (λ _. bodies_of bodies.new.entries) result state.new (rule.external_declaration
         (external_declaration_of given.now) (bodies_of bodies.old.entries) (state_of state.old)) }
 {
@@ -132,7 +132,7 @@ fn external_declarations<'a>(
     list: &[Box<ExternalDeclaration<'a>>],
     bodies: &mut IndexMap<&'a [u8], Body<'a>>,
     state: &mut State<'a>,
-) -> Result<(), TypeFault>
+) -> Result<(), Refusal<TypeFault>>
     ensures { Runs (λ _. bodies_of bodies.new.entries) result state.new (rule.external_declarations
         (map external_declaration_of (unboxed list.now)) (bodies_of bodies.old.entries) (state_of
         state.old)) }
@@ -162,20 +162,20 @@ fn typed<'a>(bodies: IndexMap<&'a [u8], Body<'a>>, state: State<'a>) -> Typed<'a
 
 /// The typed core of a unit, or its first fault.
 #[tactic(auto, unfolding(c_types_spec::specs::Units::typed))]
-pub fn check<'a>(alloc: Global, unit: &TranslationUnit<'a>) -> Result<Typed<'a>, TypeError>
+pub fn check<'a>(alloc: Global, unit: &TranslationUnit<'a>) -> Result<Typed<'a>, Refusal<TypeFault>>
     ensures { IsChecked result (rule.typed (unit_of unit.now)) }
 {
     let mut state = State::new(alloc);
     let mut bodies = IndexMap::new(alloc);
     match external_declarations(alloc, unit.items.as_slice(), &mut bodies, &mut state) {
         Ok(()) => Ok(typed(bodies, state)),
-        Err(TypeFault::Memory) => {
+        Err(Refusal::NoMemory) => {
             drop(state);
-            Err(TypeError::NoMemory)
+            Err(Refusal::NoMemory)
         }
-        Err(TypeFault::At(kind, offset)) => {
+        Err(Refusal::Fault(TypeFault::At(kind, offset))) => {
             drop(state);
-            Err(TypeError::Fault(kind, offset))
+            Err(Refusal::Fault(TypeFault::At(kind, offset)))
         }
     }
 }

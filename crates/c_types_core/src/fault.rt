@@ -2,11 +2,9 @@
 
 use c_types_spec::TypeFaultKind;
 
-/// Why there is no typed core.
+/// A fault of a unit.
 #[derive(Clone, Copy)]
 pub enum TypeFault {
-    /// Out of memory.
-    Memory,
     /// A fault of the unit, and its offset.
     At(TypeFaultKind, usize),
 }

@@ -17,7 +17,7 @@ use crate::sizes::{
     adjusted, is_array, is_incomplete, is_struct, is_void, lacks_element, too_large,
 };
 use crate::tags::is_declared;
-use attempt::attempt;
+use attempt::{Refusal, attempt};
 use c_syntax::expression::Name;
 use c_types_core::fault::TypeFault;
 use c_types_layout::types::{CType, Outer, same_type};
@@ -37,7 +37,7 @@ fn local_declared<'a>(
     name: Option<Name<'a>>,
     of: &CType,
     state: &mut State<'a>,
-) -> Result<usize, TypeFault>
+) -> Result<usize, Refusal<TypeFault>>
     ensures { Runs (λ n. n) result state.new (rule.local_declared (option_map name_of name.entry)
         (type_of of.now) (state_of state.old)) }
 {
@@ -56,7 +56,7 @@ fn local_faults(
     of: &CType,
     is_static: bool,
     state: &State<'_>,
-) -> Result<(), TypeFault>
+) -> Result<(), Refusal<TypeFault>>
     ensures { Gives nothing result (names.faults_at name.entry.offset (rule.local_faults (name_of
         name.entry) (type_of of.now) is_static (state_of state.now))) }
 {
@@ -86,7 +86,7 @@ pub fn local<'a>(
     of: &CType,
     is_static: bool,
     state: &mut State<'a>,
-) -> Result<usize, TypeFault>
+) -> Result<usize, Refusal<TypeFault>>
     ensures { Runs (λ n. n) result state.new (rule.local (name_of name.entry) (type_of of.now)
         is_static (state_of state.old)) }
 {
@@ -122,7 +122,7 @@ fn parameter_faults(
     has_body: bool,
     offset: usize,
     state: &State<'_>,
-) -> Result<(), TypeFault>
+) -> Result<(), Refusal<TypeFault>>
     ensures { Gives nothing result (names.faults_at (rule.name_offset (option_map name_of
         name.entry) offset) (rule.parameter_faults (option_map name_of name.entry) (type_of of.now)
         has_body (state_of state.now))) }
@@ -153,7 +153,7 @@ pub fn parameter<'a>(
     has_body: bool,
     offset: usize,
     state: &mut State<'a>,
-) -> Result<CType, TypeFault>
+) -> Result<CType, Refusal<TypeFault>>
     ensures { Runs type_of result state.new (rule.parameter (option_map name_of name.entry) (type_of
         of) has_body offset (state_of state.old)) }
 {
@@ -177,7 +177,7 @@ fn is_once(meaning: Option<Option<&Meaning>>) -> bool
 }
 
 /// What is refused of a typedef name.
-fn typedef_faults(name: Name<'_>, of: &CType, state: &State<'_>) -> Result<(), TypeFault>
+fn typedef_faults(name: Name<'_>, of: &CType, state: &State<'_>) -> Result<(), Refusal<TypeFault>>
     ensures { Gives nothing result (names.faults_at name.entry.offset (rule.typedef_faults (name_of
         name.entry) (type_of of.now) (state_of state.now))) }
 {
@@ -196,7 +196,11 @@ fn typedef_faults(name: Name<'_>, of: &CType, state: &State<'_>) -> Result<(), T
 
 /// A typedef name.
 #[tactic(auto, unfolding(c_types_spec::specs::Declarations::typedef))]
-pub fn typedef<'a>(name: Name<'a>, of: CType, state: &mut State<'a>) -> Result<(), TypeFault>
+pub fn typedef<'a>(
+    name: Name<'a>,
+    of: CType,
+    state: &mut State<'a>,
+) -> Result<(), Refusal<TypeFault>>
     ensures { Runs nothing result state.new (rule.typedef (name_of name.entry) (type_of of)
         (state_of state.old)) }
 {
@@ -205,7 +209,11 @@ pub fn typedef<'a>(name: Name<'a>, of: CType, state: &mut State<'a>) -> Result<(
 }
 
 /// An array of a length, where the elements of two arrays are of one type.
-fn with_length(old: &CType, of: &CType, length: Option<u64>) -> Result<Option<CType>, TypeFault>
+fn with_length(
+    old: &CType,
+    of: &CType,
+    length: Option<u64>,
+) -> Result<Option<CType>, Refusal<TypeFault>>
     ensures { Gives (λ t. option_map type_of t) result (Ok (specs.with_length length (type_of
         old.now) (type_of of.now))) }
 {
@@ -228,7 +236,7 @@ fn with_length(old: &CType, of: &CType, length: Option<u64>) -> Result<Option<CT
 
 /// The type of an object after one more declaration, or none where the types differ.
 #[tactic(auto, using(crate::proofs::Outers::by_outer))]
-fn composite(alloc: Global, old: &CType, of: &CType) -> Result<Option<CType>, TypeFault>
+fn composite(alloc: Global, old: &CType, of: &CType) -> Result<Option<CType>, Refusal<TypeFault>>
     ensures { Gives (λ t. option_map type_of t) result
         (Ok (rule.composite (type_of old.now) (type_of
         of.now))) }
@@ -251,7 +259,7 @@ fn object_type(
     alloc: Global,
     meaning: Option<Option<&Meaning>>,
     of: &CType,
-) -> Result<Option<CType>, TypeFault>
+) -> Result<Option<CType>, Refusal<TypeFault>>
     ensures { Gives (λ t. option_map type_of t) result (Ok (rule.object_type (specs.seen_in
         meaning.entry) (type_of of.now))) }
 {
@@ -268,7 +276,7 @@ fn object_faults(
     of: &CType,
     differs: bool,
     state: &State<'_>,
-) -> Result<(), TypeFault>
+) -> Result<(), Refusal<TypeFault>>
     ensures { Gives nothing result (names.faults_at name.entry.offset (specs.object_faults (name_of
         name.entry) (type_of of.now) differs (state_of state.now))) }
 {
@@ -293,7 +301,7 @@ pub fn object<'a>(
     name: Name<'a>,
     of: CType,
     state: &mut State<'a>,
-) -> Result<(), TypeFault>
+) -> Result<(), Refusal<TypeFault>>
     ensures { Runs nothing result state.new (rule.object (name_of name.entry) (type_of of)
         (state_of state.old)) }
 {
@@ -383,7 +391,7 @@ fn function_faults(
     signature: &Signature,
     has_body: bool,
     state: &State<'_>,
-) -> Result<(), TypeFault>
+) -> Result<(), Refusal<TypeFault>>
     ensures { Gives nothing result (names.faults_at name.entry.offset (rule.function_faults (name_of
         name.entry) (signature_of signature.now) has_body (state_of state.now))) }
 {
@@ -416,7 +424,7 @@ pub fn function<'a>(
     signature: Box<Signature>,
     has_body: bool,
     state: &mut State<'a>,
-) -> Result<(), TypeFault>
+) -> Result<(), Refusal<TypeFault>>
     ensures { Runs nothing result state.new (rule.function (name_of name.entry) (signature_of
         signature.value) has_body (state_of state.old)) }
 {

@@ -14,7 +14,7 @@ ghost use Rattle.c_types_spec.specs.Operands as operands;
 ghost use Rattle.c_types_spec.specs.Types as types;
 ghost use Rattle.c_types_spec.specs.declared.Standing.TheVariants as standing;
 
-use attempt::attempt;
+use attempt::{Refusal, attempt};
 use c_syntax::expression::Name;
 use c_token_spec::token::NumberType;
 use c_types_core::constants::INT;
@@ -42,7 +42,7 @@ fn local_operand<'a>(
     number: usize,
     of: &CType,
     offset: usize,
-) -> Result<Operand<'a>, TypeFault>
+) -> Result<Operand<'a>, Refusal<TypeFault>>
     ensures { Gives operand_of result (Ok (operands.operand (operands.InLocal number) (type_of
         of.now) standing.Computed offset)) }
 {
@@ -57,7 +57,11 @@ fn local_operand<'a>(
 
 /// An object of the file scope as an operand.
 #[tactic(auto, unfolding(c_types_operator::specs::Operands::operand_of))]
-fn object_operand<'a>(alloc: Global, name: Name<'a>, of: &CType) -> Result<Operand<'a>, TypeFault>
+fn object_operand<'a>(
+    alloc: Global,
+    name: Name<'a>,
+    of: &CType,
+) -> Result<Operand<'a>, Refusal<TypeFault>>
     ensures { Gives operand_of result (Ok (operands.operand (operands.InMemory (core.GlobalAddress
         name.entry.spelling.now) 0) (type_of of.now) standing.Computed name.entry.offset)) }
 {
@@ -73,30 +77,44 @@ fn object_operand<'a>(alloc: Global, name: Name<'a>, of: &CType) -> Result<Opera
 }
 
 /// What a name of a meaning gives as an expression.
-fn named_by<'a>(alloc: Global, meaning: &Meaning, name: Name<'a>) -> Result<Operand<'a>, TypeFault>
+fn named_by<'a>(
+    alloc: Global,
+    meaning: &Meaning,
+    name: Name<'a>,
+) -> Result<Operand<'a>, Refusal<TypeFault>>
     ensures { Gives operand_of result (rule.named_by (Some (meaning_of meaning.now)) (name_of
         name.entry)) }
 {
     match meaning {
         Meaning::Local(number, of) => local_operand(alloc, *number, of, name.offset),
         Meaning::Object(of) => object_operand(alloc, name, of),
-        Meaning::Function(_, _) => Err(TypeFault::At(
+        Meaning::Function(_, _) => Err(Refusal::Fault(TypeFault::At(
             TypeFaultKind::LeftOut(LeftOut::FunctionName),
             name.offset,
-        )),
-        Meaning::Typedef(_) => Err(TypeFault::At(TypeFaultKind::Unknown, name.offset)),
+        ))),
+        Meaning::Typedef(_) => Err(Refusal::Fault(TypeFault::At(
+            TypeFaultKind::Unknown,
+            name.offset,
+        ))),
         Meaning::Enumerator(value) => constant_operand(alloc, INT, *value, name.offset),
     }
 }
 
 /// What a name gives as an expression.
-fn found<'a>(alloc: Global, name: Name<'a>, state: &State<'a>) -> Result<Operand<'a>, TypeFault>
+fn found<'a>(
+    alloc: Global,
+    name: Name<'a>,
+    state: &State<'a>,
+) -> Result<Operand<'a>, Refusal<TypeFault>>
     ensures { Gives operand_of result (rule.named_by (names.in_scope (state_of state.now).names
         name.entry.spelling.now) (name_of name.entry)) }
 {
     match state.meaning(name.spelling) {
         Some(Some(meaning)) => named_by(alloc, meaning, name),
-        Some(None) | None => Err(TypeFault::At(TypeFaultKind::Unknown, name.offset)),
+        Some(None) | None => Err(Refusal::Fault(TypeFault::At(
+            TypeFaultKind::Unknown,
+            name.offset,
+        ))),
     }
 }
 
@@ -105,7 +123,7 @@ fn mentioned<'a>(
     category: &Category<'a>,
     name: &'a [u8],
     state: &mut State<'a>,
-) -> Result<(), TypeFault>
+) -> Result<(), Refusal<TypeFault>>
     ensures { Runs nothing result state.new (rule.mentioned (category_of category.now) name.now
         (state_of state.old)) }
 {
@@ -121,7 +139,7 @@ pub fn named<'a>(
     alloc: Global,
     name: Name<'a>,
     state: &mut State<'a>,
-) -> Result<Operand<'a>, TypeFault>
+) -> Result<Operand<'a>, Refusal<TypeFault>>
     ensures { Runs operand_of result state.new (rule.named (name_of name.entry) (state_of
         state.old)) }
 {
@@ -131,12 +149,12 @@ pub fn named<'a>(
 }
 
 /// The type, which has no integer of 64 bits.
-pub fn not_wide(of: CType, offset: usize) -> Result<CType, TypeFault>
+pub fn not_wide(of: CType, offset: usize) -> Result<CType, Refusal<TypeFault>>
     ensures { Gives type_of result (rule.not_wide (type_of of) offset) }
 {
     if of.is_wide() {
         drop(of);
-        Err(TypeFault::At(TypeFaultKind::LeftOut(LeftOut::Word64), offset))
+        Err(Refusal::Fault(TypeFault::At(TypeFaultKind::LeftOut(LeftOut::Word64), offset)))
     } else {
         Ok(of)
     }
@@ -167,23 +185,27 @@ pub fn number_operand<'a>(
     value: u64,
     of: NumberType,
     offset: usize,
-) -> Result<Operand<'a>, TypeFault>
+) -> Result<Operand<'a>, Refusal<TypeFault>>
     ensures { Gives operand_of result (rule.number_operand value of offset) }
 {
     let scalar = number_scalar(of);
     if scalar.width == WIDE_WIDTH {
-        return Err(TypeFault::At(TypeFaultKind::LeftOut(LeftOut::Word64), offset));
+        return Err(Refusal::Fault(TypeFault::At(TypeFaultKind::LeftOut(LeftOut::Word64), offset)));
     }
     constant_operand(alloc, scalar, value as i128, offset)
 }
 
 /// The type of a typedef name.
-pub fn typedef_named(alloc: Global, name: Name<'_>, state: &State<'_>) -> Result<CType, TypeFault>
+pub fn typedef_named(
+    alloc: Global,
+    name: Name<'_>,
+    state: &State<'_>,
+) -> Result<CType, Refusal<TypeFault>>
     ensures { Gives type_of result (rule.typedef_by (names.in_scope (state_of state.now).names
         name.entry.spelling.now) (name_of name.entry)) }
 {
     match state.meaning(name.spelling) {
         Some(Some(Meaning::Typedef(of))) => type_or_memory(of.copy(alloc)),
-        _ => Err(TypeFault::At(TypeFaultKind::Unknown, name.offset)),
+        _ => Err(Refusal::Fault(TypeFault::At(TypeFaultKind::Unknown, name.offset))),
     }
 }

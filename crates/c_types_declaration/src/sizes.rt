@@ -12,7 +12,7 @@ ghost use Rattle.c_types_operator.specs.Gives.{Gives};
 ghost use Rattle.c_types_declaration.specs.Sizes as specs;
 
 use crate::faults::first_fault;
-use attempt::attempt;
+use attempt::{Refusal, attempt};
 use c_syntax::expression::Name;
 use c_types_core::fault::TypeFault;
 use c_types_layout::structs::{Definition, Layout, Placed, alignment, member_named, size};
@@ -34,7 +34,7 @@ fn is_large(size: Option<u64>) -> bool
 }
 
 /// The size of the elements of an array, or none.
-fn element_size(structs: &[Definition<'_>], of: &CType) -> Result<Option<u64>, TypeFault>
+fn element_size(structs: &[Definition<'_>], of: &CType) -> Result<Option<u64>, Refusal<TypeFault>>
     ensures { Gives (λ n. n) result
         (Ok (capped (specs.element_size (structs_of structs.now) (type_of
         of.now)))) }
@@ -51,7 +51,7 @@ fn element_size(structs: &[Definition<'_>], of: &CType) -> Result<Option<u64>, T
 
 /// The size of a type, or that of the elements of an array without length, is over the limit.
 #[tactic(auto, using(crate::proofs::Outers::by_outer, crate::proofs::Capped::capping))]
-pub fn too_large(structs: &[Definition<'_>], of: &CType) -> Result<bool, TypeFault>
+pub fn too_large(structs: &[Definition<'_>], of: &CType) -> Result<bool, Refusal<TypeFault>>
     ensures { Gives (λ b. b) result (Ok (types.too_large (structs_of structs.now) (type_of
         of.now))) }
 {
@@ -70,7 +70,7 @@ pub fn too_large(structs: &[Definition<'_>], of: &CType) -> Result<bool, TypeFau
 
 /// It is an array of what has no size.
 #[tactic(auto, using(crate::proofs::Outers::by_outer, crate::proofs::Capped::capping))]
-pub fn lacks_element(structs: &[Definition<'_>], of: &CType) -> Result<bool, TypeFault>
+pub fn lacks_element(structs: &[Definition<'_>], of: &CType) -> Result<bool, Refusal<TypeFault>>
     ensures { Gives (λ b. b) result (Ok (types.lacks_element (structs_of structs.now) (type_of
         of.now))) }
 {
@@ -135,7 +135,7 @@ fn member_faults(
     layout: &Layout<'_>,
     name: Name<'_>,
     of: &CType,
-) -> Result<(), TypeFault>
+) -> Result<(), Refusal<TypeFault>>
     ensures { Gives nothing result (names.faults_at name.entry.offset (rule.member_faults
         (structs_of structs.now) (layout_of layout.now) (name_of name.entry) (type_of of.now))) }
 {
@@ -164,7 +164,7 @@ fn has_member(layout: &Layout<'_>, name: &[u8]) -> bool
 }
 
 /// The least multiple of an alignment from a number on.
-fn rounded_up(alignment: u64, n: u64) -> Result<u64, TypeFault>
+fn rounded_up(alignment: u64, n: u64) -> Result<u64, Refusal<TypeFault>>
     ensures { Gives (λ r. r) result (Ok (types.round_up alignment n)) }
 {
     if alignment == 0 {
@@ -173,7 +173,7 @@ fn rounded_up(alignment: u64, n: u64) -> Result<u64, TypeFault>
     let missing = (alignment - n % alignment) % alignment;
     match n.checked_add(missing) {
         Some(sum) => Ok(sum),
-        None => Err(TypeFault::Memory),
+        None => Err(Refusal::NoMemory),
     }
 }
 
@@ -196,7 +196,7 @@ fn push_member<'a>(
     name: &'a [u8],
     of: CType,
     distance: u64,
-) -> Result<(), TypeFault>
+) -> Result<(), Refusal<TypeFault>>
     requires { is_some (types.member_named (layout_of layout.old) name.now) ≡ false }
     ensures { Gives (λ _. layout_of layout.new) result (Ok (specs.with_placed (layout_of layout.old)
         name.now (type_of of) distance)) }
@@ -204,7 +204,7 @@ fn push_member<'a>(
     match layout.members.insert(name, Placed { of, distance }) {
         Ok(None) => Ok(()),
         Ok(Some(_)) => unreachable!(),
-        Err(_) => Err(TypeFault::Memory),
+        Err(_) => Err(Refusal::NoMemory),
     }
 }
 
@@ -216,7 +216,7 @@ fn with_member<'a>(
     of: CType,
     size: u64,
     alignment: u64,
-) -> Result<(), TypeFault>
+) -> Result<(), Refusal<TypeFault>>
     requires { is_some (types.member_named (layout_of layout.old) name.now) ≡ false }
     ensures { Gives (λ _. layout_of layout.new) result (Ok (types.with_member (layout_of layout.old)
         name.now (type_of of) size alignment)) }
@@ -229,19 +229,19 @@ fn with_member<'a>(
             layout.alignment = layout.alignment.max(alignment);
             Ok(())
         }
-        None => Err(TypeFault::Memory),
+        None => Err(Refusal::NoMemory),
     }
 }
 
 /// The struct is not too large.
 #[tactic(auto, unfolding(c_types_layout::specs::Structs::layout_of))]
-fn layout_fits(layout: &Layout<'_>, offset: usize) -> Result<(), TypeFault>
+fn layout_fits(layout: &Layout<'_>, offset: usize) -> Result<(), Refusal<TypeFault>>
     ensures { Gives (λ _. layout_of layout.now) result (rule.layout_fits (layout_of layout.now)
         offset) }
 {
     let padded = attempt!(rounded_up(layout.alignment, layout.filled));
     if padded >= SIZE_LIMIT {
-        Err(TypeFault::At(TypeFaultKind::Mismatch, offset))
+        Err(Refusal::Fault(TypeFault::At(TypeFaultKind::Mismatch, offset)))
     } else {
         Ok(())
     }
@@ -254,7 +254,7 @@ pub fn member<'a>(
     layout: &mut Layout<'a>,
     name: Name<'a>,
     of: CType,
-) -> Result<(), TypeFault>
+) -> Result<(), Refusal<TypeFault>>
     ensures { Gives (λ _. layout_of layout.new) result (rule.member (structs_of structs.now)
         (layout_of layout.old) (name_of name.entry) (type_of of)) }
 {
@@ -267,7 +267,7 @@ pub fn member<'a>(
 
 /// A struct without members so far.
 #[tactic(auto, unfolding(c_types_layout::specs::Structs::layout_of))]
-pub fn empty_layout<'a>(alloc: Global) -> Result<Box<Layout<'a>>, TypeFault>
+pub fn empty_layout<'a>(alloc: Global) -> Result<Box<Layout<'a>>, Refusal<TypeFault>>
     ensures { Gives (λ l. layout_of l.value) result (Ok types.empty_layout) }
 {
     let layout = Layout {
@@ -277,13 +277,13 @@ pub fn empty_layout<'a>(alloc: Global) -> Result<Box<Layout<'a>>, TypeFault>
     };
     match Box::new(alloc, layout) {
         Ok(made) => Ok(made),
-        Err(_) => Err(TypeFault::Memory),
+        Err(_) => Err(Refusal::NoMemory),
     }
 }
 
 /// The type of a parameter: an array is a pointer (6.7.6.3p7).
 #[tactic(auto, using(crate::proofs::Outers::adjusting))]
-pub fn adjusted(of: CType) -> Result<CType, TypeFault>
+pub fn adjusted(of: CType) -> Result<CType, Refusal<TypeFault>>
     ensures { Gives type_of result (Ok (rule.adjusted (type_of of))) }
 {
     match attempt_or_drop!(part_or_memory(of.element()); of) {

@@ -14,7 +14,7 @@ ghost use Rattle.c_types_scope.specs.Meanings.{tag_of};
 ghost use Rattle.c_types_scope.specs.States.{state_of, nothing, Runs};
 ghost use Rattle.c_types_declaration.specs.Tags.{new_tagged};
 
-use attempt::attempt;
+use attempt::{Refusal, attempt};
 use c_syntax::expression::Name;
 use c_types_core::constants::INT;
 use c_types_core::fault::TypeFault;
@@ -31,7 +31,7 @@ fn tagged_struct<'a>(
     tag: Name<'a>,
     definition: Definition<'a>,
     state: &mut State<'a>,
-) -> Result<usize, TypeFault>
+) -> Result<usize, Refusal<TypeFault>>
     ensures { Runs (λ n. n) result state.new (new_tagged (definition_of definition.entry) (name_of
         tag.entry) (state_of state.old)) }
 {
@@ -46,14 +46,17 @@ pub fn struct_named<'a>(
     alloc: Global,
     tag: Name<'a>,
     state: &mut State<'a>,
-) -> Result<CType, TypeFault>
+) -> Result<CType, Refusal<TypeFault>>
     ensures { Runs type_of result state.new (rule.struct_named (name_of tag.entry) (state_of
         state.old)) }
 {
     match state.tag(tag.spelling) {
         Some(Some(Tag::Struct(number))) => Ok(CType::plain(alloc, Base::Struct(number))),
-        Some(Some(Tag::Enum(_))) => Err(TypeFault::At(TypeFaultKind::Mismatch, tag.offset)),
-        Some(None) => Err(TypeFault::At(TypeFaultKind::Unknown, tag.offset)),
+        Some(Some(Tag::Enum(_))) => Err(Refusal::Fault(TypeFault::At(
+            TypeFaultKind::Mismatch,
+            tag.offset,
+        ))),
+        Some(None) => Err(Refusal::Fault(TypeFault::At(TypeFaultKind::Unknown, tag.offset))),
         None => {
             let number = attempt!(tagged_struct(tag, Definition::Undefined, state));
             Ok(CType::plain(alloc, Base::Struct(number)))
@@ -62,14 +65,21 @@ pub fn struct_named<'a>(
 }
 
 /// `enum tag`
-pub fn enum_named(alloc: Global, tag: Name<'_>, state: &State<'_>) -> Result<CType, TypeFault>
+pub fn enum_named(
+    alloc: Global,
+    tag: Name<'_>,
+    state: &State<'_>,
+) -> Result<CType, Refusal<TypeFault>>
     ensures { Gives type_of result (rule.enum_by (names.in_scope (state_of state.now).tags
         tag.entry.spelling.now) (name_of tag.entry)) }
 {
     match state.tag(tag.spelling) {
         Some(Some(Tag::Enum(scalar))) => Ok(CType::plain(alloc, Base::Integer(scalar))),
-        Some(Some(Tag::Struct(_))) => Err(TypeFault::At(TypeFaultKind::Mismatch, tag.offset)),
-        Some(None) | None => Err(TypeFault::At(TypeFaultKind::Unknown, tag.offset)),
+        Some(Some(Tag::Struct(_))) => Err(Refusal::Fault(TypeFault::At(
+            TypeFaultKind::Mismatch,
+            tag.offset,
+        ))),
+        Some(None) | None => Err(Refusal::Fault(TypeFault::At(TypeFaultKind::Unknown, tag.offset))),
     }
 }
 
@@ -84,26 +94,29 @@ fn is_undefined(state: &State<'_>, number: usize) -> bool
 }
 
 /// The number of a struct of a tag whose members follow.
-fn tagged_begun<'a>(tag: Name<'a>, state: &mut State<'a>) -> Result<usize, TypeFault>
+fn tagged_begun<'a>(tag: Name<'a>, state: &mut State<'a>) -> Result<usize, Refusal<TypeFault>>
     ensures { Runs (λ n. n) result state.new (rule.begun_by (names.in_innermost (state_of
         state.old).tags tag.entry.spelling.now) (name_of tag.entry) (state_of state.old)) }
 {
     match state.innermost_tag(tag.spelling) {
         Some(Some(Tag::Struct(number))) => {
             if !is_undefined(state, number) {
-                return Err(TypeFault::At(TypeFaultKind::Twice, tag.offset));
+                return Err(Refusal::Fault(TypeFault::At(TypeFaultKind::Twice, tag.offset)));
             }
             state.define_struct(number, Definition::Unfinished);
             Ok(number)
         }
-        Some(_) => Err(TypeFault::At(TypeFaultKind::Twice, tag.offset)),
+        Some(_) => Err(Refusal::Fault(TypeFault::At(TypeFaultKind::Twice, tag.offset))),
         None => tagged_struct(tag, Definition::Unfinished, state),
     }
 }
 
 /// The number of a struct whose members follow.
 #[tactic(auto, unfolding(c_types_spec::specs::Declarations::struct_begun))]
-pub fn struct_begun<'a>(tag: Option<Name<'a>>, state: &mut State<'a>) -> Result<usize, TypeFault>
+pub fn struct_begun<'a>(
+    tag: Option<Name<'a>>,
+    state: &mut State<'a>,
+) -> Result<usize, Refusal<TypeFault>>
     ensures { Runs (λ n. n) result state.new (rule.struct_begun (option_map name_of tag.entry)
         (state_of state.old)) }
 {
@@ -115,13 +128,13 @@ pub fn struct_begun<'a>(tag: Option<Name<'a>>, state: &mut State<'a>) -> Result<
 
 /// The tag of an enumeration is new in its scope.
 #[tactic(auto, unfolding(c_types_spec::specs::Declarations::new_tag))]
-pub fn new_tag(tag: Option<Name<'_>>, state: &State<'_>) -> Result<(), TypeFault>
+pub fn new_tag(tag: Option<Name<'_>>, state: &State<'_>) -> Result<(), Refusal<TypeFault>>
     ensures { Runs nothing result state.now (rule.new_tag (option_map name_of tag.entry) (state_of
         state.now)) }
 {
     match tag {
         Some(tag) => match state.innermost_tag(tag.spelling) {
-            Some(_) => Err(TypeFault::At(TypeFaultKind::Twice, tag.offset)),
+            Some(_) => Err(Refusal::Fault(TypeFault::At(TypeFaultKind::Twice, tag.offset))),
             None => Ok(()),
         },
         None => Ok(()),
@@ -145,7 +158,7 @@ pub fn enum_finished<'a>(
     tag: Option<Name<'a>>,
     is_negative: bool,
     state: &mut State<'a>,
-) -> Result<CType, TypeFault>
+) -> Result<CType, Refusal<TypeFault>>
     ensures { Runs type_of result state.new (rule.enum_finished (option_map name_of tag.entry)
         is_negative (state_of state.old)) }
 {
@@ -176,15 +189,19 @@ fn is_int(value: i128) -> bool
 
 /// A constant of an enumeration.
 #[tactic(auto, unfolding(c_types_spec::specs::Declarations::enumerator))]
-pub fn enumerator<'a>(name: Name<'a>, value: i128, state: &mut State<'a>) -> Result<(), TypeFault>
+pub fn enumerator<'a>(
+    name: Name<'a>,
+    value: i128,
+    state: &mut State<'a>,
+) -> Result<(), Refusal<TypeFault>>
     ensures { Runs nothing result state.new (rule.enumerator (name_of name.entry) value (state_of
         state.old)) }
 {
     if is_declared(state, name) {
-        return Err(TypeFault::At(TypeFaultKind::Twice, name.offset));
+        return Err(Refusal::Fault(TypeFault::At(TypeFaultKind::Twice, name.offset)));
     }
     if !is_int(value) {
-        return Err(TypeFault::At(TypeFaultKind::Mismatch, name.offset));
+        return Err(Refusal::Fault(TypeFault::At(TypeFaultKind::Mismatch, name.offset)));
     }
     state.declare(name.spelling, Meaning::Enumerator(value))
 }

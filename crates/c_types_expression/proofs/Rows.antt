@@ -12,8 +12,10 @@ use Rattle.c_types_spec.specs.Types.{Layout}
 use Rattle.c_types_spec.specs.Names.{State, Fault, Typing, bind, give, ◌>>=◌, ◌>>◌}
 use Rattle.c_types_spec.specs.Declarations.{enumerator}
 use Rattle.c_types_spec.specs.Expressions.{specifiers, member_declarators, members, enumerators}
+use Rattle.attempt.specs.declared.refusal.Refusal.{Refusal}
+use Rattle.attempt.specs.declared.refusal.Refusal.TheVariants as refusal
 use Rattle.c_types_core.specs.declared.fault.TypeFault.{TypeFault}
-use Rattle.c_types_core.specs.declared.fault.TypeFault.TheVariants.{Memory, At}
+use Rattle.c_types_core.specs.declared.fault.TypeFault.TheVariants.{At}
 use Rattle.c_types_scope.specs.declared.state.State.{State as Program}
 use Rattle.c_types_scope.specs.States.{Runs}
 use Rattle.c_types_expression.specs.Trees.{members_in, constants_in, constant_value, member_row, next_constant}
@@ -47,11 +49,11 @@ pub members-next : (list : List (Box Member Global)) (i : ℕ) (item : Box Membe
 members-next list i item member layout more st next whole is same h e all = sym (members-by list i item member layout st (Ok (more, next)) is same h e) ∙ all
 
 -- a fault of a row is one of all
-pub members-failed : (list : List (Box Member Global)) (i : ℕ) (item : Box Member Global) (member : Member) (layout : Layout) (st : State) (whole : Result (Layout × State) Fault) (fault : TypeFault) (view : Unit {0} → Layout) (after : Program)
+pub members-failed : (list : List (Box Member Global)) (i : ℕ) (item : Box Member Global) (member : Member) (layout : Layout) (st : State) (whole : Result (Layout × State) Fault) (fault : Refusal TypeFault) (view : Unit {0} → Layout) (after : Program)
     → item ≡ get_or list i item → member ≡ item.value → i < length list → Runs view (Err fault) after (member_row (member_of member) layout st)
     → members (members_in (drop i list)) layout st ≡ whole → Runs view (Err fault) after whole
-members-failed list i item member layout st whole Memory view after is same h e all = tt {0}
-members-failed list i item member layout st whole (At kind offset) view after is same h e all = sym all ∙ members-by list i item member layout st (Err (kind, offset)) is same h e
+members-failed list i item member layout st whole refusal.NoMemory view after is same h e all = tt {0}
+members-failed list i item member layout st whole (refusal.Fault (At kind offset)) view after is same h e all = sym all ∙ members-by list i item member layout st (Err (kind, offset)) is same h e
 
 then-next : {B : Type 0} (r : Result (Unit {0} × State) Fault) (x : ℤ × Bool) (k : ℤ × Bool → Typing B) → bind r (λ m. k x m.1) ≡ bind (bind r (λ m. give x m.1)) (λ made. k made.0 made.1)
 then-next (Ok m) x k = refl

@@ -16,7 +16,7 @@ ghost use Rattle.c_types_expression.specs.Trees as trees;
 use crate::types::{
     array_length, declared_type, integer_constant, integer_scalar, one_more, pointers_to,
 };
-use attempt::attempt;
+use attempt::{Refusal, attempt};
 use c_syntax::expression::{
     Constant, Declarator, Expression, Member, Name, Specifiers, TypeName, TypeSpecifier,
 };
@@ -64,7 +64,7 @@ fn member_of<'a>(
     name: Name<'a>,
     offset: usize,
     state: &State<'a>,
-) -> Result<Operand<'a>, TypeFault>
+) -> Result<Operand<'a>, Refusal<TypeFault>>
     ensures { Runs operand_of result state.now (rule.member_of access (operand_of x.entry) (name_of
         name.entry) offset (state_of state.now)) }
 {
@@ -113,7 +113,7 @@ pub fn value<'a>(
     alloc: Global,
     x: &Expression<'a>,
     state: &mut State<'a>,
-) -> Result<Valued<'a>, TypeFault>
+) -> Result<Valued<'a>, Refusal<TypeFault>>
     ensures { Runs valued_of result state.new (rule.value (expression_of x.now) (state_of
         state.old)) }
 {
@@ -129,7 +129,7 @@ fn index<'a>(
     x: &Expression<'a>,
     place: Position,
     state: &mut State<'a>,
-) -> Result<Operand<'a>, TypeFault>
+) -> Result<Operand<'a>, Refusal<TypeFault>>
     ensures { Runs operand_of result state.new (rule.expression (expression_of x.now) place
         (state_of state.old)) }
 {
@@ -153,7 +153,7 @@ fn index<'a>(
         | Expression::SizeofType(_, _)
         | Expression::Cast(_, _, _)
         | Expression::Binary(_, _, _, _)
-        | Expression::Conditional(_, _, _, _) => Err(TypeFault::Memory),
+        | Expression::Conditional(_, _, _, _) => Err(Refusal::NoMemory),
     }
 }
 
@@ -165,7 +165,7 @@ fn binary<'a>(
     x: &Expression<'a>,
     place: Position,
     state: &mut State<'a>,
-) -> Result<Operand<'a>, TypeFault>
+) -> Result<Operand<'a>, Refusal<TypeFault>>
     ensures { Runs operand_of result state.new (rule.expression (expression_of x.now) place
         (state_of state.old)) }
 {
@@ -185,7 +185,7 @@ fn binary<'a>(
         | Expression::Sizeof(_, _)
         | Expression::SizeofType(_, _)
         | Expression::Cast(_, _, _)
-        | Expression::Conditional(_, _, _, _) => Err(TypeFault::Memory),
+        | Expression::Conditional(_, _, _, _) => Err(Refusal::NoMemory),
     }
 }
 
@@ -197,7 +197,7 @@ fn choice<'a>(
     x: &Expression<'a>,
     place: Position,
     state: &mut State<'a>,
-) -> Result<Operand<'a>, TypeFault>
+) -> Result<Operand<'a>, Refusal<TypeFault>>
     ensures { Runs operand_of result state.new (rule.expression (expression_of x.now) place
         (state_of state.old)) }
 {
@@ -218,7 +218,7 @@ fn choice<'a>(
         | Expression::Sizeof(_, _)
         | Expression::SizeofType(_, _)
         | Expression::Cast(_, _, _)
-        | Expression::Binary(_, _, _, _) => Err(TypeFault::Memory),
+        | Expression::Binary(_, _, _, _) => Err(Refusal::NoMemory),
     }
 }
 
@@ -230,7 +230,7 @@ pub fn expression<'a>(
     x: &Expression<'a>,
     place: Position,
     state: &mut State<'a>,
-) -> Result<Operand<'a>, TypeFault>
+) -> Result<Operand<'a>, Refusal<TypeFault>>
     ensures { Runs operand_of result state.new (rule.expression (expression_of x.now) place
         (state_of state.old)) }
 {
@@ -279,7 +279,7 @@ pub fn type_name<'a>(
     alloc: Global,
     name: &TypeName<'a>,
     state: &mut State<'a>,
-) -> Result<CType, TypeFault>
+) -> Result<CType, Refusal<TypeFault>>
     ensures { Runs type_of result state.new (rule.type_name (type_name_of name.now) (state_of
         state.old)) }
 {
@@ -295,7 +295,7 @@ fn type_specifier<'a>(
     alloc: Global,
     base: &TypeSpecifier<'a>,
     state: &mut State<'a>,
-) -> Result<CType, TypeFault>
+) -> Result<CType, Refusal<TypeFault>>
     ensures { Runs type_of result state.new (rule.type_specifier (type_specifier_of base.now)
         (state_of state.old)) }
 {
@@ -320,7 +320,7 @@ fn structure<'a>(
     list: &[Box<Member<'a>>],
     tag: Option<Name<'a>>,
     state: &mut State<'a>,
-) -> Result<CType, TypeFault>
+) -> Result<CType, Refusal<TypeFault>>
     ensures { Runs type_of result state.new (rule.type_specifier (tree.Struct (option_map name_of
         tag.entry) (trees.members_in list.now)) (state_of state.old)) }
 {
@@ -338,7 +338,7 @@ fn enumeration<'a>(
     list: &[Box<Constant<'a>>],
     tag: Option<Name<'a>>,
     state: &mut State<'a>,
-) -> Result<CType, TypeFault>
+) -> Result<CType, Refusal<TypeFault>>
     ensures { Runs type_of result state.new (rule.type_specifier (tree.Enum (option_map name_of
         tag.entry) (trees.constants_in list.now)) (state_of state.old)) }
 {
@@ -355,7 +355,7 @@ fn members<'a>(
     list: &[Box<Member<'a>>],
     layout: &mut Layout<'a>,
     state: &mut State<'a>,
-) -> Result<(), TypeFault>
+) -> Result<(), Refusal<TypeFault>>
     ensures { Runs (λ _. layout_of layout.new) result state.new (rule.members (trees.members_in
         list.now) (layout_of layout.old) (state_of state.old)) }
 {
@@ -376,7 +376,7 @@ fn member_row<'a>(
     item: &Member<'a>,
     layout: &mut Layout<'a>,
     state: &mut State<'a>,
-) -> Result<(), TypeFault>
+) -> Result<(), Refusal<TypeFault>>
     ensures { Runs (λ _. layout_of layout.new) result state.new (trees.member_row (member_tree_of
         item.now) (layout_of layout.old) (state_of state.old)) }
 {
@@ -395,7 +395,7 @@ fn member_declarators<'a>(
     of: &CType,
     layout: &mut Layout<'a>,
     state: &mut State<'a>,
-) -> Result<(), TypeFault>
+) -> Result<(), Refusal<TypeFault>>
     ensures { Runs (λ _. layout_of layout.new) result state.new (rule.member_declarators
         (trees.declarators_in list.now) (type_of of.now) (layout_of layout.old) (state_of
         state.old)) }
@@ -415,7 +415,7 @@ pub fn declarator<'a>(
     declared: &Declarator<'a>,
     of: &CType,
     state: &mut State<'a>,
-) -> Result<CType, TypeFault>
+) -> Result<CType, Refusal<TypeFault>>
     ensures { Runs type_of result state.new (rule.declarator (declarator_of declared.now) (type_of
         of.now) (state_of state.old)) }
 {
@@ -443,7 +443,7 @@ fn lengths_into<'a>(
     list: &[Box<Expression<'a>>],
     found: &mut Vec<u64>,
     state: &mut State<'a>,
-) -> Result<(), TypeFault>
+) -> Result<(), Refusal<TypeFault>>
     ensures { Runs (λ _. found.new.items) result state.new (rule.lengths (trees.expressions_in
         list.now) found.old.items (state_of state.old)) }
 {
@@ -464,7 +464,7 @@ fn enumerators<'a>(
     alloc: Global,
     list: &[Box<Constant<'a>>],
     state: &mut State<'a>,
-) -> Result<bool, TypeFault>
+) -> Result<bool, Refusal<TypeFault>>
     ensures { Runs (λ b. b) result state.new (rule.enumerators (trees.constants_in list.now) (pos 0)
         false (state_of state.old)) }
 {
@@ -486,7 +486,7 @@ fn enumerator_row<'a>(
     item: &Constant<'a>,
     next: &mut Next,
     state: &mut State<'a>,
-) -> Result<(), TypeFault>
+) -> Result<(), Refusal<TypeFault>>
     ensures { Runs (λ _. trees.next_of next.new) result state.new (trees.next_constant (constant_of
         item.now) (trees.next_of next.old) (state_of state.old)) }
 {
@@ -505,7 +505,7 @@ fn constant_value<'a>(
     constant: &Constant<'a>,
     next: i128,
     state: &mut State<'a>,
-) -> Result<i128, TypeFault>
+) -> Result<i128, Refusal<TypeFault>>
     ensures { Runs (λ v. v) result state.new (trees.constant_value (constant_of constant.now).1 next
         (state_of state.old)) }
 {
@@ -526,7 +526,7 @@ pub fn specifiers<'a>(
     alloc: Global,
     words: &Specifiers<'a>,
     state: &mut State<'a>,
-) -> Result<CType, TypeFault>
+) -> Result<CType, Refusal<TypeFault>>
     ensures { Runs type_of result state.new (rule.specifiers (specifiers_of words.now) (state_of
         state.old)) }
 {
@@ -538,7 +538,7 @@ pub fn lengths<'a>(
     alloc: Global,
     list: &[Box<Expression<'a>>],
     state: &mut State<'a>,
-) -> Result<Vec<u64>, TypeFault>
+) -> Result<Vec<u64>, Refusal<TypeFault>>
     ensures { Runs (λ l. l.items) result state.new (rule.lengths (trees.expressions_in list.now) []
         (state_of state.old)) }
 {

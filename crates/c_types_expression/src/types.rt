@@ -8,7 +8,7 @@ ghost use Rattle.c_types_layout.specs.Types.{type_of};
 ghost use Rattle.c_types_operator.specs.Gives.{Gives};
 ghost use Rattle.c_types_operator.specs.Operands.{core_in, valued_of};
 
-use attempt::attempt;
+use attempt::{Refusal, attempt};
 use c_syntax_spec::IntegerType;
 use c_types_core::expression::Core;
 use c_types_core::fault::TypeFault;
@@ -37,7 +37,7 @@ pub fn integer_scalar(of: IntegerType) -> Scalar
 
 /// So many `*` after a type.
 #[tactic(auto, unfolding(c_types_spec::specs::Expressions::pointers_to))]
-pub fn pointers_to(count: usize, of: CType) -> Result<CType, TypeFault>
+pub fn pointers_to(count: usize, of: CType) -> Result<CType, Refusal<TypeFault>>
     ensures { Gives type_of result (Ok (rule.pointers_to count (type_of of))) }
 {
     let mut made = of;
@@ -50,7 +50,7 @@ pub fn pointers_to(count: usize, of: CType) -> Result<CType, TypeFault>
 }
 
 /// An array of these lengths, the first the outermost, and without a further one where it is open.
-pub fn array_of(is_open: bool, lengths: &[u64], of: CType) -> Result<CType, TypeFault>
+pub fn array_of(is_open: bool, lengths: &[u64], of: CType) -> Result<CType, Refusal<TypeFault>>
     ensures { Gives type_of result (Ok (rule.array_of is_open lengths.now (type_of of))) }
 {
     let made = attempt!(arrays_of(lengths, of));
@@ -63,7 +63,7 @@ pub fn array_of(is_open: bool, lengths: &[u64], of: CType) -> Result<CType, Type
 
 /// Arrays of these lengths, the first the outermost.
 #[tactic(auto, using(crate::proofs::Arrays::one_more))]
-fn arrays_of(lengths: &[u64], of: CType) -> Result<CType, TypeFault>
+fn arrays_of(lengths: &[u64], of: CType) -> Result<CType, Refusal<TypeFault>>
     ensures { Gives type_of result (Ok (rule.arrays_of lengths.now (type_of of))) }
 {
     let mut made = of;
@@ -76,32 +76,32 @@ fn arrays_of(lengths: &[u64], of: CType) -> Result<CType, TypeFault>
 }
 
 /// The length of an array, which is above 0.
-fn length_of(value: i128, offset: usize) -> Result<u64, TypeFault>
+fn length_of(value: i128, offset: usize) -> Result<u64, Refusal<TypeFault>>
     ensures { Gives (λ n. n) result (rule.length_of value offset) }
 {
     if value <= 0 {
-        return Err(TypeFault::At(TypeFaultKind::Mismatch, offset));
+        return Err(Refusal::Fault(TypeFault::At(TypeFaultKind::Mismatch, offset)));
     }
     match u64::try_from(value) {
         Ok(length) => Ok(length),
-        Err(_) => Err(TypeFault::Memory),
+        Err(_) => Err(Refusal::NoMemory),
     }
 }
 
 /// The value of an expression that has to be an integer constant expression (6.6p6).
 #[tactic(auto, unfolding(c_types_spec::specs::Operands::integer_constant, c_types_operator::specs::Operands::valued_of))]
-pub fn integer_constant(x: &Valued<'_>) -> Result<i128, TypeFault>
+pub fn integer_constant(x: &Valued<'_>) -> Result<i128, Refusal<TypeFault>>
     ensures { Gives (λ v. v) result (operands.integer_constant (valued_of x.now)) }
 {
     match attempt!(constant_of(x)) {
         Some(value) => Ok(value),
-        None => Err(TypeFault::At(TypeFaultKind::Mismatch, x.offset)),
+        None => Err(Refusal::Fault(TypeFault::At(TypeFaultKind::Mismatch, x.offset))),
     }
 }
 
 /// The length of an array from its expression.
 #[tactic(auto, unfolding(c_types_spec::specs::Expressions::array_length, c_types_operator::specs::Operands::valued_of))]
-pub fn array_length(x: &Valued<'_>) -> Result<u64, TypeFault>
+pub fn array_length(x: &Valued<'_>) -> Result<u64, Refusal<TypeFault>>
     ensures { Gives (λ n. n) result (rule.array_length (valued_of x.now)) }
 {
     let value = attempt!(integer_constant(x));
@@ -110,7 +110,7 @@ pub fn array_length(x: &Valued<'_>) -> Result<u64, TypeFault>
 
 /// A value of an integer or a pointer (6.5.13p2, 6.8.4.1p1, 6.8.5p2).
 #[tactic(auto, unfolding(c_types_spec::specs::Operands::scalar_value, c_types_operator::specs::Operands::valued_of))]
-pub fn scalar_value<'a>(x: Valued<'a>) -> Result<Box<Core<'a>>, TypeFault>
+pub fn scalar_value<'a>(x: Valued<'a>) -> Result<Box<Core<'a>>, Refusal<TypeFault>>
     ensures { Gives core_in result (operands.scalar_value (valued_of x.entry)) }
 {
     match x.of.scalar() {
@@ -121,7 +121,7 @@ pub fn scalar_value<'a>(x: Valued<'a>) -> Result<Box<Core<'a>>, TypeFault>
         None => {
             let offset = x.offset;
             drop(x);
-            Err(TypeFault::At(TypeFaultKind::Mismatch, offset))
+            Err(Refusal::Fault(TypeFault::At(TypeFaultKind::Mismatch, offset)))
         }
     }
 }
@@ -133,7 +133,7 @@ pub fn declared_type(
     is_open: bool,
     lengths: &[u64],
     of: &CType,
-) -> Result<CType, TypeFault>
+) -> Result<CType, Refusal<TypeFault>>
     ensures { Gives type_of result (Ok (rule.array_of is_open lengths.now (rule.pointers_to pointers
         (type_of of.now)))) }
 {
@@ -143,11 +143,11 @@ pub fn declared_type(
 }
 
 /// The number after this one.
-pub(crate) fn one_more(value: i128) -> Result<i128, TypeFault>
+pub(crate) fn one_more(value: i128) -> Result<i128, Refusal<TypeFault>>
     ensures { Gives (λ v. v) result (Ok (value +ℤ pos 1)) }
 {
     match value.checked_add(1) {
         Some(sum) => Ok(sum),
-        None => Err(TypeFault::Memory),
+        None => Err(Refusal::NoMemory),
     }
 }

@@ -1,10 +1,12 @@
 -- What it means that the program gives what a definition gives. Memory may be refused at any time.
 use Rattle.std.specs.Prelude.{◌≡◌, Result, Ok, Err}
 use Rattle.c_types_spec.specs.Names.{Fault}
+use Rattle.attempt.specs.declared.refusal.Refusal.{Refusal}
+use Rattle.attempt.specs.declared.refusal.Refusal.TheVariants as refusal
 use Rattle.c_types_core.specs.declared.fault.TypeFault.{TypeFault}
-use Rattle.c_types_core.specs.declared.fault.TypeFault.TheVariants.{Memory, At}
+use Rattle.c_types_core.specs.declared.fault.TypeFault.TheVariants.{At}
 
-abbrev pub Gives : {A B : Type 0} → (view : A → B) → Result A TypeFault → Result B Fault → Type 0
+abbrev pub Gives : {A B : Type 0} → (view : A → B) → Result A (Refusal TypeFault) → Result B Fault → Type 0
 Gives view (Ok x) given = given ≡ Ok (view x)
-Gives view (Err Memory) given = Unit {0}
-Gives view (Err (At kind offset)) given = given ≡ Err (kind, offset)
+Gives view (Err refusal.NoMemory) given = Unit {0}
+Gives view (Err (refusal.Fault (At kind offset))) given = given ≡ Err (kind, offset)

@@ -6,7 +6,7 @@ ghost use Rattle.c_types_operator.specs.Operands.{operand_of, valued_of};
 
 use crate::operand::{Operand, Valued, convert, core_or_memory};
 use crate::scalar::{both, common, integer_operand, promoted};
-use attempt::attempt;
+use attempt::{Refusal, attempt};
 use c_types_core::expression::Core;
 use c_types_core::fault::TypeFault;
 use c_types_spec::{Arithmetic, TypeFaultKind};
@@ -20,14 +20,14 @@ pub fn arithmetic<'a>(
     a: Valued<'a>,
     b: Valued<'a>,
     offset: usize,
-) -> Result<Operand<'a>, TypeFault>
+) -> Result<Operand<'a>, Refusal<TypeFault>>
     ensures { Gives operand_of result (operators.arithmetic operator (valued_of a.entry)
         (valued_of b.entry) offset) }
 {
     let (Some(s), Some(t)) = (a.of.integer(), b.of.integer()) else {
         drop(a);
         drop(b);
-        return Err(TypeFault::At(TypeFaultKind::Mismatch, offset));
+        return Err(Refusal::Fault(TypeFault::At(TypeFaultKind::Mismatch, offset)));
     };
     drop(a.of);
     drop(b.of);
@@ -46,14 +46,14 @@ pub fn shift<'a>(
     a: Valued<'a>,
     b: Valued<'a>,
     offset: usize,
-) -> Result<Operand<'a>, TypeFault>
+) -> Result<Operand<'a>, Refusal<TypeFault>>
     ensures { Gives operand_of result (operators.shift operator (valued_of a.entry)
         (valued_of b.entry) offset) }
 {
     let (Some(s), Some(t)) = (a.of.integer(), b.of.integer()) else {
         drop(a);
         drop(b);
-        return Err(TypeFault::At(TypeFaultKind::Mismatch, offset));
+        return Err(Refusal::Fault(TypeFault::At(TypeFaultKind::Mismatch, offset)));
     };
     drop(a.of);
     drop(b.of);

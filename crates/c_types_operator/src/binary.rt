@@ -12,6 +12,7 @@ use crate::comparison::{equality, relation};
 use crate::logic::{conjunction, disjunction};
 use crate::operand::{Operand, Valued};
 use crate::pointer::{difference, sum};
+use attempt::Refusal;
 use c_syntax_spec::BinaryOperator;
 use c_types_core::fault::TypeFault;
 use c_types_layout::structs::Definition;
@@ -74,7 +75,7 @@ pub fn binary_rule<'a>(
     a: Valued<'a>,
     b: Valued<'a>,
     offset: usize,
-) -> Result<Operand<'a>, TypeFault>
+) -> Result<Operand<'a>, Refusal<TypeFault>>
     ensures { Gives operand_of result (operators.binary_rule operator (structs_of structs.now)
         (valued_of a.entry) (valued_of b.entry) offset) }
 {

@@ -11,7 +11,7 @@ ghost use Rattle.c_types_operator.specs.Operands.{operand_of, valued_of};
 use crate::operand::{Operand, Valued, convert};
 use crate::scalar::{kept, value_operand};
 use crate::value::is_zero;
-use attempt::attempt;
+use attempt::{Refusal, attempt};
 use c_types_core::fault::TypeFault;
 use c_types_layout::types::{Base, CType, Outer, WORD};
 use c_types_spec::{Position, Scalar, Standing, TypeFaultKind};
@@ -26,14 +26,14 @@ fn cast_to<'a>(
     standing: Standing,
     x: Valued<'a>,
     offset: usize,
-) -> Result<Operand<'a>, TypeFault>
+) -> Result<Operand<'a>, Refusal<TypeFault>>
     ensures { Gives operand_of result (operators.cast_to (ctype_of of) scalar standing
         (valued_of x.entry) offset) }
 {
     let Some(_) = x.of.scalar() else {
         drop(of);
         drop(x);
-        return Err(TypeFault::At(TypeFaultKind::Mismatch, offset));
+        return Err(Refusal::Fault(TypeFault::At(TypeFaultKind::Mismatch, offset)));
     };
     drop(x.of);
     let core = attempt_or_drop!(convert(alloc, scalar, x.core); of);
@@ -41,7 +41,7 @@ fn cast_to<'a>(
 }
 
 /// Which constant a value is as a pointer of a type.
-fn pointer_standing(of: &CType, x: &Valued<'_>) -> Result<Standing, TypeFault>
+fn pointer_standing(of: &CType, x: &Valued<'_>) -> Result<Standing, Refusal<TypeFault>>
     ensures { Gives (λ s. s) result (Ok (standing_by (ctype_of of.now) (valued_of x.now))) }
 {
     if !of.points_to_void() {
@@ -61,7 +61,7 @@ fn cast_to_void<'a>(
     place: Position,
     x: Valued<'a>,
     offset: usize,
-) -> Result<Operand<'a>, TypeFault>
+) -> Result<Operand<'a>, Refusal<TypeFault>>
     ensures { Gives operand_of result (void_cast place (valued_of x.entry) offset) }
 {
     match place {
@@ -72,7 +72,7 @@ fn cast_to_void<'a>(
         }
         Position::Operand | Position::Addressed => {
             drop(x);
-            Err(TypeFault::At(TypeFaultKind::Mismatch, offset))
+            Err(Refusal::Fault(TypeFault::At(TypeFaultKind::Mismatch, offset)))
         }
     }
 }
@@ -85,7 +85,7 @@ pub fn cast<'a>(
     of: CType,
     x: Valued<'a>,
     offset: usize,
-) -> Result<Operand<'a>, TypeFault>
+) -> Result<Operand<'a>, Refusal<TypeFault>>
     ensures { Gives operand_of result (operators.cast place (ctype_of of) (valued_of x.entry)
         offset) }
 {
@@ -105,7 +105,7 @@ pub fn cast<'a>(
         Outer::Array(_) | Outer::Struct(_) => {
             drop(of);
             drop(x);
-            Err(TypeFault::At(TypeFaultKind::Mismatch, offset))
+            Err(Refusal::Fault(TypeFault::At(TypeFaultKind::Mismatch, offset)))
         }
     }
 }

@@ -13,7 +13,7 @@ use crate::conversion::pointers_agree;
 use crate::operand::{Operand, Valued, convert, core_or_memory};
 use crate::scalar::{both, common, integer_operand};
 use crate::value::is_null;
-use attempt::attempt;
+use attempt::{Refusal, attempt};
 use c_types_core::constants::INT;
 use c_types_core::expression::Core;
 use c_types_core::fault::TypeFault;
@@ -29,7 +29,7 @@ pub fn compared<'a>(
     offset: usize,
     left: Box<Core<'a>>,
     right: Box<Core<'a>>,
-) -> Result<Operand<'a>, TypeFault>
+) -> Result<Operand<'a>, Refusal<TypeFault>>
     ensures { Gives operand_of result (Ok (operators.comparison operator standing offset
         (core_in left.entry) (core_in right.entry))) }
 {
@@ -46,7 +46,7 @@ fn compared_integers<'a>(
     b: Valued<'a>,
     offset: usize,
     of: Scalar,
-) -> Result<Operand<'a>, TypeFault>
+) -> Result<Operand<'a>, Refusal<TypeFault>>
     ensures { Gives operand_of result (Ok (operators.comparison operator (rule.both
         (valued_of a.entry).standing (valued_of b.entry).standing) offset (rule.convert of
         (valued_of a.entry).core) (rule.convert of (valued_of b.entry).core))) }
@@ -73,7 +73,7 @@ pub fn relation<'a>(
     a: Valued<'a>,
     b: Valued<'a>,
     offset: usize,
-) -> Result<Operand<'a>, TypeFault>
+) -> Result<Operand<'a>, Refusal<TypeFault>>
     ensures { Gives operand_of result (operators.relation operator (valued_of a.entry)
         (valued_of b.entry) offset) }
 {
@@ -89,13 +89,13 @@ pub fn relation<'a>(
             } else {
                 drop(a);
                 drop(b);
-                Err(TypeFault::At(TypeFaultKind::Mismatch, offset))
+                Err(Refusal::Fault(TypeFault::At(TypeFaultKind::Mismatch, offset)))
             }
         }
         _ => {
             drop(a);
             drop(b);
-            Err(TypeFault::At(TypeFaultKind::Mismatch, offset))
+            Err(Refusal::Fault(TypeFault::At(TypeFaultKind::Mismatch, offset)))
         }
     }
 }
@@ -108,20 +108,20 @@ fn compared_where<'a>(
     left: Box<Core<'a>>,
     right: Box<Core<'a>>,
     offset: usize,
-) -> Result<Operand<'a>, TypeFault>
+) -> Result<Operand<'a>, Refusal<TypeFault>>
     ensures { Gives operand_of result (compared_if agrees operator (core_in left.entry)
         (core_in right.entry) offset) }
 {
     if agrees {
         compared(alloc, operator, Standing::Computed, offset, left, right)
     } else {
-        Err(TypeFault::At(TypeFaultKind::Mismatch, offset))
+        Err(Refusal::Fault(TypeFault::At(TypeFaultKind::Mismatch, offset)))
     }
 }
 
 /// The pointers agree, or one is a null pointer constant.
 #[tactic(auto, unfolding(crate::specs::Operands::valued_of))]
-fn can_be_equal(a: &Valued<'_>, b: &Valued<'_>) -> Result<bool, TypeFault>
+fn can_be_equal(a: &Valued<'_>, b: &Valued<'_>) -> Result<bool, Refusal<TypeFault>>
     ensures { Gives (λ v. v) result (Ok (conversions.pointers_agree (valued_of a.now).type
         (valued_of b.now).type || rule.is_null (valued_of a.now) || rule.is_null (valued_of
         b.now))) }
@@ -143,7 +143,7 @@ fn compared_null<'a>(
     pointer: Box<Core<'a>>,
     x: Valued<'a>,
     offset: usize,
-) -> Result<Operand<'a>, TypeFault>
+) -> Result<Operand<'a>, Refusal<TypeFault>>
     ensures { Gives operand_of result (compared_if (rule.is_null (valued_of x.entry)) operator
         (core_in pointer.entry) (rule.convert types.word (valued_of x.entry).core) offset) }
 {
@@ -161,7 +161,7 @@ fn null_compared<'a>(
     x: Valued<'a>,
     pointer: Box<Core<'a>>,
     offset: usize,
-) -> Result<Operand<'a>, TypeFault>
+) -> Result<Operand<'a>, Refusal<TypeFault>>
     ensures { Gives operand_of result (compared_if (rule.is_null (valued_of x.entry)) operator
         (rule.convert types.word (valued_of x.entry).core) (core_in pointer.entry) offset) }
 {
@@ -179,7 +179,7 @@ pub fn equality<'a>(
     a: Valued<'a>,
     b: Valued<'a>,
     offset: usize,
-) -> Result<Operand<'a>, TypeFault>
+) -> Result<Operand<'a>, Refusal<TypeFault>>
     ensures { Gives operand_of result (operators.equality operator (valued_of a.entry)
         (valued_of b.entry) offset) }
 {
@@ -204,7 +204,7 @@ pub fn equality<'a>(
         _ => {
             drop(a);
             drop(b);
-            Err(TypeFault::At(TypeFaultKind::Mismatch, offset))
+            Err(Refusal::Fault(TypeFault::At(TypeFaultKind::Mismatch, offset)))
         }
     }
 }

@@ -13,7 +13,7 @@ use crate::conversion::pointers_agree;
 use crate::operand::{Operand, Valued, convert, core_or_memory, type_or_memory};
 use crate::scalar::{both, common, value_operand};
 use crate::value::is_null;
-use attempt::attempt;
+use attempt::{Refusal, attempt};
 use c_types_core::expression::Core;
 use c_types_core::fault::TypeFault;
 use c_types_layout::types::{Base, CType, Outer, WORD, same_type};
@@ -27,7 +27,7 @@ fn integers<'a>(
     of: Scalar,
     a: Valued<'a>,
     b: Valued<'a>,
-) -> Result<Arms<'a>, TypeFault>
+) -> Result<Arms<'a>, Refusal<TypeFault>>
     ensures { Gives arms_of result (Ok (operators.arms (types.Integer of) of (rule.convert of
         (valued_of a.entry).core) (rule.convert of (valued_of b.entry).core))) }
 {
@@ -50,7 +50,7 @@ fn pointers<'a>(
     a: Valued<'a>,
     b: Valued<'a>,
     offset: usize,
-) -> Result<Arms<'a>, TypeFault>
+) -> Result<Arms<'a>, Refusal<TypeFault>>
     ensures { Gives arms_of result (pointers_by (valued_of a.entry) (valued_of b.entry) offset
         (valued_of a.entry).type (valued_of b.entry).type) }
 {
@@ -75,7 +75,7 @@ fn pointers<'a>(
     if !pointers_agree(&a.of, &b.of) {
         drop(a);
         drop(b);
-        return Err(TypeFault::At(TypeFaultKind::Mismatch, offset));
+        return Err(Refusal::Fault(TypeFault::At(TypeFaultKind::Mismatch, offset)));
     }
     drop(a.of);
     drop(b.of);
@@ -95,13 +95,13 @@ fn null_second<'a>(
     a: Valued<'a>,
     b: Valued<'a>,
     offset: usize,
-) -> Result<Arms<'a>, TypeFault>
+) -> Result<Arms<'a>, Refusal<TypeFault>>
     ensures { Gives arms_of result (null_second_by (valued_of a.entry) (valued_of b.entry) offset) }
 {
     if !attempt_or_drop!(is_null(&b); a, b) {
         drop(a);
         drop(b);
-        return Err(TypeFault::At(TypeFaultKind::Mismatch, offset));
+        return Err(Refusal::Fault(TypeFault::At(TypeFaultKind::Mismatch, offset)));
     }
     drop(b.of);
     let second = attempt_or_drop!(convert(alloc, WORD, b.core); a);
@@ -120,13 +120,13 @@ fn null_first<'a>(
     a: Valued<'a>,
     b: Valued<'a>,
     offset: usize,
-) -> Result<Arms<'a>, TypeFault>
+) -> Result<Arms<'a>, Refusal<TypeFault>>
     ensures { Gives arms_of result (null_first_by (valued_of a.entry) (valued_of b.entry) offset) }
 {
     if !attempt_or_drop!(is_null(&a); a, b) {
         drop(a);
         drop(b);
-        return Err(TypeFault::At(TypeFaultKind::Mismatch, offset));
+        return Err(Refusal::Fault(TypeFault::At(TypeFaultKind::Mismatch, offset)));
     }
     drop(a.of);
     let first = attempt_or_drop!(convert(alloc, WORD, a.core); b);
@@ -145,7 +145,7 @@ fn arms<'a>(
     a: Valued<'a>,
     b: Valued<'a>,
     offset: usize,
-) -> Result<Arms<'a>, TypeFault>
+) -> Result<Arms<'a>, Refusal<TypeFault>>
     ensures { Gives arms_of result (operators.arms_of (valued_of a.entry) (valued_of b.entry) offset
         (valued_of a.entry).type (valued_of b.entry).type) }
 {
@@ -157,7 +157,7 @@ fn arms<'a>(
         _ => {
             drop(a);
             drop(b);
-            Err(TypeFault::At(TypeFaultKind::Mismatch, offset))
+            Err(Refusal::Fault(TypeFault::At(TypeFaultKind::Mismatch, offset)))
         }
     }
 }
@@ -170,7 +170,7 @@ pub fn conditional<'a>(
     a: Valued<'a>,
     b: Valued<'a>,
     offset: usize,
-) -> Result<Operand<'a>, TypeFault>
+) -> Result<Operand<'a>, Refusal<TypeFault>>
     ensures { Gives operand_of result (operators.conditional (valued_of test.entry)
         (valued_of a.entry) (valued_of b.entry) offset) }
 {
@@ -178,7 +178,7 @@ pub fn conditional<'a>(
         drop(test);
         drop(a);
         drop(b);
-        return Err(TypeFault::At(TypeFaultKind::Mismatch, offset));
+        return Err(Refusal::Fault(TypeFault::At(TypeFaultKind::Mismatch, offset)));
     };
     drop(test.of);
     let standing = both(test.standing, both(a.standing, b.standing));

@@ -11,7 +11,7 @@ ghost use Rattle.c_types_operator.specs.Operands.{core_in, valued_of};
 
 use crate::operand::{Valued, convert};
 use crate::value::is_null;
-use attempt::attempt;
+use attempt::{Refusal, attempt};
 use c_types_core::expression::Core;
 use c_types_core::fault::TypeFault;
 use c_types_layout::types::{CType, Outer, WORD, same_type};
@@ -42,7 +42,7 @@ fn to_integer<'a>(
     alloc: Global,
     scalar: Scalar,
     x: Valued<'a>,
-) -> Result<Option<Box<Core<'a>>>, TypeFault>
+) -> Result<Option<Box<Core<'a>>>, Refusal<TypeFault>>
     ensures { Gives (option_map core_in) result (Ok (rule.to_integer scalar (valued_of x.entry))) }
 {
     match x.of.integer() {
@@ -59,7 +59,10 @@ fn to_integer<'a>(
 
 /// A null pointer constant as a pointer, or none.
 #[tactic(auto, unfolding(crate::specs::Operands::valued_of))]
-fn null_pointer<'a>(alloc: Global, x: Valued<'a>) -> Result<Option<Box<Core<'a>>>, TypeFault>
+fn null_pointer<'a>(
+    alloc: Global,
+    x: Valued<'a>,
+) -> Result<Option<Box<Core<'a>>>, Refusal<TypeFault>>
     ensures { Gives (option_map core_in) result (Ok (rule.if_true (rule.is_null (valued_of x.entry))
         (rule.convert types.word (valued_of x.entry).core))) }
 {
@@ -74,7 +77,10 @@ fn null_pointer<'a>(alloc: Global, x: Valued<'a>) -> Result<Option<Box<Core<'a>>
 
 /// A pointer as another one, or none.
 #[tactic(auto, unfolding(crate::specs::Operands::valued_of))]
-fn other_pointer<'a>(target: &CType, x: Valued<'a>) -> Result<Option<Box<Core<'a>>>, TypeFault>
+fn other_pointer<'a>(
+    target: &CType,
+    x: Valued<'a>,
+) -> Result<Option<Box<Core<'a>>>, Refusal<TypeFault>>
     ensures { Gives (option_map core_in) result (Ok (rule.if_true (specs.pointers_agree (ctype_of
         target.now) (valued_of x.entry).type || rule.is_null (valued_of x.entry))
         (valued_of x.entry).core)) }
@@ -98,7 +104,7 @@ fn to_pointer<'a>(
     alloc: Global,
     target: &CType,
     x: Valued<'a>,
-) -> Result<Option<Box<Core<'a>>>, TypeFault>
+) -> Result<Option<Box<Core<'a>>>, Refusal<TypeFault>>
     ensures { Gives (option_map core_in) result (Ok (pointer_by (ctype_of target.now)
         (valued_of x.entry) (valued_of x.entry).type (outer_of (valued_of x.entry).type))) }
 {
@@ -118,7 +124,7 @@ pub fn assigned<'a>(
     alloc: Global,
     target: &CType,
     x: Valued<'a>,
-) -> Result<Option<Box<Core<'a>>>, TypeFault>
+) -> Result<Option<Box<Core<'a>>>, Refusal<TypeFault>>
     ensures { Gives (option_map core_in) result (Ok (rule.assigned (ctype_of target.now)
         (valued_of x.entry))) }
 {

@@ -9,7 +9,7 @@ ghost use Rattle.c_types_operator.specs.Operands.{core_in, operand_of, valued_of
 use crate::comparison::compared;
 use crate::operand::{Operand, Valued, convert, core_or_memory};
 use crate::scalar::{both, integer_operand, kept, promoted};
-use attempt::attempt;
+use attempt::{Refusal, attempt};
 use c_types_core::constants::{INT, has_width, type_of};
 use c_types_core::expression::Core;
 use c_types_core::fault::TypeFault;
@@ -18,14 +18,14 @@ use c_types_spec::{Arithmetic, Comparison, Scalar, TypeFaultKind};
 use std::alloc::Global;
 
 /// 0 in a type.
-fn zero_of<'a>(alloc: Global, of: Scalar) -> Result<Box<Core<'a>>, TypeFault>
+fn zero_of<'a>(alloc: Global, of: Scalar) -> Result<Box<Core<'a>>, Refusal<TypeFault>>
     ensures { Gives core_in result (Ok (operators.zero_of of)) }
 {
     core_or_memory(Core::constant(alloc, of, 0))
 }
 
 /// 1 where the value is not 0, else 0.
-fn truth<'a>(alloc: Global, core: Box<Core<'a>>) -> Result<Box<Core<'a>>, TypeFault>
+fn truth<'a>(alloc: Global, core: Box<Core<'a>>) -> Result<Box<Core<'a>>, Refusal<TypeFault>>
     ensures { Gives core_in result (Ok (operators.truth (core_in core.entry))) }
 {
     let zero = attempt!(zero_of(alloc, type_of(&core)));
@@ -39,14 +39,14 @@ pub fn conjunction<'a>(
     a: Valued<'a>,
     b: Valued<'a>,
     offset: usize,
-) -> Result<Operand<'a>, TypeFault>
+) -> Result<Operand<'a>, Refusal<TypeFault>>
     ensures { Gives operand_of result (operators.conjunction (valued_of a.entry) (valued_of b.entry)
         offset) }
 {
     let (Some(_), Some(_)) = (a.of.scalar(), b.of.scalar()) else {
         drop(a);
         drop(b);
-        return Err(TypeFault::At(TypeFaultKind::Mismatch, offset));
+        return Err(Refusal::Fault(TypeFault::At(TypeFaultKind::Mismatch, offset)));
     };
     drop(a.of);
     drop(b.of);
@@ -63,14 +63,14 @@ pub fn disjunction<'a>(
     a: Valued<'a>,
     b: Valued<'a>,
     offset: usize,
-) -> Result<Operand<'a>, TypeFault>
+) -> Result<Operand<'a>, Refusal<TypeFault>>
     ensures { Gives operand_of result (operators.disjunction (valued_of a.entry) (valued_of b.entry)
         offset) }
 {
     let (Some(_), Some(_)) = (a.of.scalar(), b.of.scalar()) else {
         drop(a);
         drop(b);
-        return Err(TypeFault::At(TypeFaultKind::Mismatch, offset));
+        return Err(Refusal::Fault(TypeFault::At(TypeFaultKind::Mismatch, offset)));
     };
     drop(a.of);
     drop(b.of);
@@ -82,12 +82,16 @@ pub fn disjunction<'a>(
 
 /// `+` before an operand
 #[tactic(auto, unfolding(crate::specs::Operands::valued_of, c_types_spec::specs::Operators::plus))]
-pub fn plus<'a>(alloc: Global, x: Valued<'a>, offset: usize) -> Result<Operand<'a>, TypeFault>
+pub fn plus<'a>(
+    alloc: Global,
+    x: Valued<'a>,
+    offset: usize,
+) -> Result<Operand<'a>, Refusal<TypeFault>>
     ensures { Gives operand_of result (operators.plus (valued_of x.entry) offset) }
 {
     let Some(s) = x.of.integer() else {
         drop(x);
-        return Err(TypeFault::At(TypeFaultKind::Mismatch, offset));
+        return Err(Refusal::Fault(TypeFault::At(TypeFaultKind::Mismatch, offset)));
     };
     drop(x.of);
     let of = promoted(s);
@@ -97,12 +101,16 @@ pub fn plus<'a>(alloc: Global, x: Valued<'a>, offset: usize) -> Result<Operand<'
 
 /// `-` before an operand: the difference of 0 and the operand
 #[tactic(auto, unfolding(crate::specs::Operands::valued_of, c_types_spec::specs::Operators::minus))]
-pub fn minus<'a>(alloc: Global, x: Valued<'a>, offset: usize) -> Result<Operand<'a>, TypeFault>
+pub fn minus<'a>(
+    alloc: Global,
+    x: Valued<'a>,
+    offset: usize,
+) -> Result<Operand<'a>, Refusal<TypeFault>>
     ensures { Gives operand_of result (operators.minus (valued_of x.entry) offset) }
 {
     let Some(s) = x.of.integer() else {
         drop(x);
-        return Err(TypeFault::At(TypeFaultKind::Mismatch, offset));
+        return Err(Refusal::Fault(TypeFault::At(TypeFaultKind::Mismatch, offset)));
     };
     drop(x.of);
     let of = promoted(s);
@@ -120,23 +128,27 @@ pub fn minus<'a>(alloc: Global, x: Valued<'a>, offset: usize) -> Result<Operand<
 }
 
 /// All bits set.
-fn ones_of<'a>(alloc: Global, of: Scalar) -> Result<Box<Core<'a>>, TypeFault>
+fn ones_of<'a>(alloc: Global, of: Scalar) -> Result<Box<Core<'a>>, Refusal<TypeFault>>
     ensures { Gives core_in result (Ok (operators.ones_of of)) }
 {
     if !has_width(of) {
-        return Err(TypeFault::Memory);
+        return Err(Refusal::NoMemory);
     }
     core_or_memory(Core::constant(alloc, of, convert_value(-1, of)))
 }
 
 /// `~`: the operand with each bit changed
 #[tactic(auto, unfolding(crate::specs::Operands::valued_of, c_types_spec::specs::Operators::complement),)]
-pub fn complement<'a>(alloc: Global, x: Valued<'a>, offset: usize) -> Result<Operand<'a>, TypeFault>
+pub fn complement<'a>(
+    alloc: Global,
+    x: Valued<'a>,
+    offset: usize,
+) -> Result<Operand<'a>, Refusal<TypeFault>>
     ensures { Gives operand_of result (operators.complement (valued_of x.entry) offset) }
 {
     let Some(s) = x.of.integer() else {
         drop(x);
-        return Err(TypeFault::At(TypeFaultKind::Mismatch, offset));
+        return Err(Refusal::Fault(TypeFault::At(TypeFaultKind::Mismatch, offset)));
     };
     drop(x.of);
     let of = promoted(s);
@@ -155,12 +167,16 @@ pub fn complement<'a>(alloc: Global, x: Valued<'a>, offset: usize) -> Result<Ope
 
 /// `!x` is `0 == x`
 #[tactic(auto, unfolding(crate::specs::Operands::valued_of, c_types_spec::specs::Operators::negation),)]
-pub fn negation<'a>(alloc: Global, x: Valued<'a>, offset: usize) -> Result<Operand<'a>, TypeFault>
+pub fn negation<'a>(
+    alloc: Global,
+    x: Valued<'a>,
+    offset: usize,
+) -> Result<Operand<'a>, Refusal<TypeFault>>
     ensures { Gives operand_of result (operators.negation (valued_of x.entry) offset) }
 {
     let Some(_) = x.of.scalar() else {
         drop(x);
-        return Err(TypeFault::At(TypeFaultKind::Mismatch, offset));
+        return Err(Refusal::Fault(TypeFault::At(TypeFaultKind::Mismatch, offset)));
     };
     drop(x.of);
     let zero = attempt!(zero_of(alloc, type_of(&x.core)));

@@ -14,7 +14,7 @@ use crate::operand::{Category, Operand, Valued, core_or_memory, part_or_memory, 
 use crate::pointer::{address_of, dereferenced, size_needed};
 use crate::scalar::integer_operand;
 use crate::value::value_of;
-use attempt::attempt;
+use attempt::{Refusal, attempt};
 use c_syntax_spec::UnaryOperator;
 use c_types_core::constants::has_width;
 use c_types_core::expression::Core;
@@ -35,7 +35,7 @@ fn member_at<'a>(
     name: &[u8],
     name_offset: usize,
     offset: usize,
-) -> Result<Operand<'a>, TypeFault>
+) -> Result<Operand<'a>, Refusal<TypeFault>>
     ensures { Gives operand_of result (operators.member_at (core_in address.entry) displacement
         (layout_of layout.now) (name_of name.now name_offset) offset) }
 {
@@ -51,11 +51,11 @@ fn member_at<'a>(
                 }),
                 None => {
                     drop(of);
-                    Err(TypeFault::Memory)
+                    Err(Refusal::NoMemory)
                 }
             }
         }
-        None => Err(TypeFault::At(TypeFaultKind::Unknown, name_offset)),
+        None => Err(Refusal::Fault(TypeFault::At(TypeFaultKind::Unknown, name_offset))),
     }
 }
 
@@ -70,7 +70,7 @@ fn dot_in<'a>(
     name: &[u8],
     name_offset: usize,
     offset: usize,
-) -> Result<Operand<'a>, TypeFault>
+) -> Result<Operand<'a>, Refusal<TypeFault>>
     ensures { Gives operand_of result (operators.dot_in (structs_of structs.now)
         (core_in address.entry) displacement (ctype_of of) (name_of name.now name_offset) offset) }
 {
@@ -89,10 +89,10 @@ fn dot_in<'a>(
                     offset,
                 )
             }
-            None => Err(TypeFault::At(TypeFaultKind::Incomplete, offset)),
+            None => Err(Refusal::Fault(TypeFault::At(TypeFaultKind::Incomplete, offset))),
         },
         Outer::Void | Outer::Integer(_) | Outer::Pointer | Outer::Array(_) => {
-            Err(TypeFault::At(TypeFaultKind::Mismatch, offset))
+            Err(Refusal::Fault(TypeFault::At(TypeFaultKind::Mismatch, offset)))
         }
     }
 }
@@ -106,7 +106,7 @@ pub fn dot<'a>(
     name: &[u8],
     name_offset: usize,
     offset: usize,
-) -> Result<Operand<'a>, TypeFault>
+) -> Result<Operand<'a>, Refusal<TypeFault>>
     ensures { Gives operand_of result (operators.dot (structs_of structs.now) (operand_of x.entry)
         (name_of name.now name_offset) offset) }
 {
@@ -120,7 +120,7 @@ pub fn dot<'a>(
         Category::Value(_) | Category::InLocal(_) => {
             drop(category);
             drop(of);
-            Err(TypeFault::At(TypeFaultKind::Mismatch, offset))
+            Err(Refusal::Fault(TypeFault::At(TypeFaultKind::Mismatch, offset)))
         }
         Category::InMemory(address, displacement) => {
             dot_in(
@@ -147,7 +147,7 @@ fn arrow_in<'a>(
     name: &[u8],
     name_offset: usize,
     offset: usize,
-) -> Result<Operand<'a>, TypeFault>
+) -> Result<Operand<'a>, Refusal<TypeFault>>
     ensures { Gives operand_of result (arrow_in_by (structs_of structs.now) (outer_of (ctype_of
         target.now)) (core_in pointer.entry) (name_of name.now name_offset) offset) }
 {
@@ -160,10 +160,10 @@ fn arrow_in<'a>(
                 )));
                 member_at(alloc, address, 0, layout, name, name_offset, offset)
             }
-            None => Err(TypeFault::At(TypeFaultKind::Incomplete, offset)),
+            None => Err(Refusal::Fault(TypeFault::At(TypeFaultKind::Incomplete, offset))),
         },
         Outer::Void | Outer::Integer(_) | Outer::Pointer | Outer::Array(_) => {
-            Err(TypeFault::At(TypeFaultKind::Mismatch, offset))
+            Err(Refusal::Fault(TypeFault::At(TypeFaultKind::Mismatch, offset)))
         }
     }
 }
@@ -177,7 +177,7 @@ pub fn arrow<'a>(
     name: &[u8],
     name_offset: usize,
     offset: usize,
-) -> Result<Operand<'a>, TypeFault>
+) -> Result<Operand<'a>, Refusal<TypeFault>>
     ensures { Gives operand_of result (operators.arrow (structs_of structs.now) (valued_of x.entry)
         (name_of name.now name_offset) offset) }
 {
@@ -189,7 +189,7 @@ pub fn arrow<'a>(
             drop(target);
             made
         }
-        None => Err(TypeFault::At(TypeFaultKind::Mismatch, offset)),
+        None => Err(Refusal::Fault(TypeFault::At(TypeFaultKind::Mismatch, offset))),
     }
 }
 
@@ -199,11 +199,11 @@ pub fn constant_operand<'a>(
     of: Scalar,
     value: i128,
     offset: usize,
-) -> Result<Operand<'a>, TypeFault>
+) -> Result<Operand<'a>, Refusal<TypeFault>>
     ensures { Gives operand_of result (Ok (rule.constant_operand of value offset)) }
 {
     if !has_width(of) {
-        return Err(TypeFault::Memory);
+        return Err(Refusal::NoMemory);
     }
     let core = attempt!(core_or_memory(Core::constant(alloc, of, convert_value(value, of))));
     Ok(integer_operand(alloc, core, of, Standing::ConstantExpression, offset))
@@ -216,7 +216,7 @@ pub fn size_operand<'a>(
     structs: &[Definition<'a>],
     of: &CType,
     offset: usize,
-) -> Result<Operand<'a>, TypeFault>
+) -> Result<Operand<'a>, Refusal<TypeFault>>
     ensures { Gives operand_of result (operators.size_operand (structs_of structs.now) (ctype_of
         of.now) offset) }
 {
@@ -231,7 +231,7 @@ pub fn unary_rule<'a>(
     operator: UnaryOperator,
     x: Operand<'a>,
     offset: usize,
-) -> Result<Operand<'a>, TypeFault>
+) -> Result<Operand<'a>, Refusal<TypeFault>>
     ensures { Gives operand_of result (operators.unary_rule operator (operand_of x.entry) offset) }
 {
     match operator {

@@ -7,7 +7,7 @@ ghost use Rattle.c_types_layout.specs.Types.{type_of as ctype_of, element_of};
 ghost use Rattle.c_types_operator.specs.Gives.{Gives};
 ghost use Rattle.c_types_operator.specs.Operands.{core_in, operand_of, valued_of};
 
-use attempt::attempt;
+use attempt::{Refusal, attempt};
 use c_types_core::constants::{INT, WORD, type_of};
 use c_types_core::expression::Core;
 use c_types_core::fault::TypeFault;
@@ -55,32 +55,34 @@ pub struct Valued<'a> {
 /// Out of memory, where there is no memory for a part of the typed core.
 pub fn core_or_memory<'a>(
     made: Result<Box<Core<'a>>, AllocError>,
-) -> Result<Box<Core<'a>>, TypeFault>
-    ensures { MatchResult result (λ x. made.entry ≡ Ok x) (λ e. e ≡ TypeFault.Memory) }
+) -> Result<Box<Core<'a>>, Refusal<TypeFault>>
+    ensures { MatchResult result (λ x. made.entry ≡ Ok x) (λ e. e ≡ Refusal.NoMemory) }
 {
     match made {
         Ok(core) => Ok(core),
-        Err(_) => Err(TypeFault::Memory),
+        Err(_) => Err(Refusal::NoMemory),
     }
 }
 
 /// Out of memory, where there is no memory for a type.
-pub fn type_or_memory(made: Result<CType, AllocError>) -> Result<CType, TypeFault>
-    ensures { MatchResult result (λ x. made ≡ Ok x) (λ e. e ≡ TypeFault.Memory) }
+pub fn type_or_memory(made: Result<CType, AllocError>) -> Result<CType, Refusal<TypeFault>>
+    ensures { MatchResult result (λ x. made ≡ Ok x) (λ e. e ≡ Refusal.NoMemory) }
 {
     match made {
         Ok(of) => Ok(of),
-        Err(_) => Err(TypeFault::Memory),
+        Err(_) => Err(Refusal::NoMemory),
     }
 }
 
 /// Out of memory, where there is no memory for a part of a type.
-pub fn part_or_memory(made: Result<Option<CType>, AllocError>) -> Result<Option<CType>, TypeFault>
-    ensures { MatchResult result (λ x. made ≡ Ok x) (λ e. e ≡ TypeFault.Memory) }
+pub fn part_or_memory(
+    made: Result<Option<CType>, AllocError>,
+) -> Result<Option<CType>, Refusal<TypeFault>>
+    ensures { MatchResult result (λ x. made ≡ Ok x) (λ e. e ≡ Refusal.NoMemory) }
 {
     match made {
         Ok(of) => Ok(of),
-        Err(_) => Err(TypeFault::Memory),
+        Err(_) => Err(Refusal::NoMemory),
     }
 }
 
@@ -90,7 +92,7 @@ pub fn convert<'a>(
     alloc: Global,
     to: Scalar,
     core: Box<Core<'a>>,
-) -> Result<Box<Core<'a>>, TypeFault>
+) -> Result<Box<Core<'a>>, Refusal<TypeFault>>
     ensures { Gives core_in result (Ok (rule.convert to (core_in core.entry))) }
 {
     if same_scalar(type_of(&core), to) {
@@ -107,7 +109,7 @@ pub fn displaced<'a>(
     address: Box<Core<'a>>,
     displacement: usize,
     offset: usize,
-) -> Result<Box<Core<'a>>, TypeFault>
+) -> Result<Box<Core<'a>>, Refusal<TypeFault>>
     ensures { Gives core_in result (Ok (rule.displaced (core_in address.entry) displacement
         offset)) }
 {

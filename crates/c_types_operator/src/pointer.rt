@@ -14,7 +14,7 @@ use crate::operand::{
 };
 use crate::scalar::value_operand;
 use crate::value::value_of;
-use attempt::attempt;
+use attempt::{Refusal, attempt};
 use c_types_core::expression::Core;
 use c_types_core::fault::TypeFault;
 use c_types_layout::structs::{Definition, size};
@@ -30,7 +30,7 @@ pub(crate) fn size_needed(
     structs: &[Definition<'_>],
     of: &CType,
     offset: usize,
-) -> Result<usize, TypeFault>
+) -> Result<usize, Refusal<TypeFault>>
     ensures { Gives (λ n. n) result (size_of_needed (structs_of structs.now) (ctype_of of.now)
         offset) }
 {
@@ -39,10 +39,10 @@ pub(crate) fn size_needed(
             if size < SIZE_LIMIT {
                 Ok(size as usize)
             } else {
-                Err(TypeFault::Memory)
+                Err(Refusal::NoMemory)
             }
         }
-        None => Err(TypeFault::At(TypeFaultKind::Incomplete, offset)),
+        None => Err(Refusal::Fault(TypeFault::At(TypeFaultKind::Incomplete, offset))),
     }
 }
 
@@ -57,14 +57,14 @@ pub fn moved<'a>(
     pointer: Box<Core<'a>>,
     index: Box<Core<'a>>,
     offset: usize,
-) -> Result<Operand<'a>, TypeFault>
+) -> Result<Operand<'a>, Refusal<TypeFault>>
     ensures { Gives operand_of result (moved_pointer (structs_of structs.now) direction order
         (ctype_of of) (core_in pointer.entry) (core_in index.entry) offset) }
 {
     let found = of.target();
     drop(of);
     let Some(target) = attempt!(part_or_memory(found)) else {
-        return Err(TypeFault::At(TypeFaultKind::Mismatch, offset));
+        return Err(Refusal::Fault(TypeFault::At(TypeFaultKind::Mismatch, offset)));
     };
     let size = attempt_or_drop!(size_needed(structs, &target, offset); target);
     let of = attempt!(type_or_memory(target.pointer()));
@@ -81,7 +81,7 @@ pub fn sum<'a>(
     a: Valued<'a>,
     b: Valued<'a>,
     offset: usize,
-) -> Result<Operand<'a>, TypeFault>
+) -> Result<Operand<'a>, Refusal<TypeFault>>
     ensures { Gives operand_of result (operators.sum (structs_of structs.now) (valued_of a.entry)
         (valued_of b.entry) offset) }
 {
@@ -116,7 +116,7 @@ pub fn sum<'a>(
         _ => {
             drop(a);
             drop(b);
-            Err(TypeFault::At(TypeFaultKind::Mismatch, offset))
+            Err(Refusal::Fault(TypeFault::At(TypeFaultKind::Mismatch, offset)))
         }
     }
 }
@@ -129,7 +129,7 @@ pub fn difference<'a>(
     a: Valued<'a>,
     b: Valued<'a>,
     offset: usize,
-) -> Result<Operand<'a>, TypeFault>
+) -> Result<Operand<'a>, Refusal<TypeFault>>
     ensures { Gives operand_of result (operators.difference (structs_of structs.now)
         (valued_of a.entry) (valued_of b.entry) offset) }
 {
@@ -155,22 +155,25 @@ pub fn difference<'a>(
             drop(a);
             drop(b);
             if is_same {
-                Err(TypeFault::At(TypeFaultKind::LeftOut(LeftOut::Difference), offset))
+                Err(Refusal::Fault(TypeFault::At(
+                    TypeFaultKind::LeftOut(LeftOut::Difference),
+                    offset,
+                )))
             } else {
-                Err(TypeFault::At(TypeFaultKind::Mismatch, offset))
+                Err(Refusal::Fault(TypeFault::At(TypeFaultKind::Mismatch, offset)))
             }
         }
         _ => {
             drop(a);
             drop(b);
-            Err(TypeFault::At(TypeFaultKind::Mismatch, offset))
+            Err(Refusal::Fault(TypeFault::At(TypeFaultKind::Mismatch, offset)))
         }
     }
 }
 
 /// What a pointer points to (6.5.3.2).
 #[tactic(auto, unfolding(crate::specs::Operands::valued_of, crate::specs::Operands::operand_of, c_types_spec::specs::Operators::dereferenced,), using(crate::proofs::ByOuter::pointing),)]
-pub fn dereferenced<'a>(x: Valued<'a>, offset: usize) -> Result<Operand<'a>, TypeFault>
+pub fn dereferenced<'a>(x: Valued<'a>, offset: usize) -> Result<Operand<'a>, Refusal<TypeFault>>
     ensures { Gives operand_of result (operators.dereferenced (valued_of x.entry) offset) }
 {
     let found = x.of.target();
@@ -182,13 +185,13 @@ pub fn dereferenced<'a>(x: Valued<'a>, offset: usize) -> Result<Operand<'a>, Typ
             standing: Standing::Computed,
             offset,
         }),
-        None => Err(TypeFault::At(TypeFaultKind::Mismatch, offset)),
+        None => Err(Refusal::Fault(TypeFault::At(TypeFaultKind::Mismatch, offset))),
     }
 }
 
 /// The object that a moved pointer points to.
 #[tactic(auto, unfolding(crate::specs::Operands::valued_of))]
-fn element_at<'a>(alloc: Global, x: Operand<'a>) -> Result<Operand<'a>, TypeFault>
+fn element_at<'a>(alloc: Global, x: Operand<'a>) -> Result<Operand<'a>, Refusal<TypeFault>>
     ensures { Gives operand_of result (operators.element_at (operand_of x.entry)) }
 {
     let v = attempt!(value_of(alloc, x));
@@ -202,7 +205,7 @@ fn within<'a>(
     bound: Option<usize>,
     index: Box<Core<'a>>,
     offset: usize,
-) -> Result<Box<Core<'a>>, TypeFault>
+) -> Result<Box<Core<'a>>, Refusal<TypeFault>>
     ensures { Gives core_in result (Ok (operators.within bound (core_in index.entry) offset)) }
 {
     match bound {
@@ -220,7 +223,7 @@ pub fn subscript<'a>(
     a: Valued<'a>,
     b: Valued<'a>,
     offset: usize,
-) -> Result<Operand<'a>, TypeFault>
+) -> Result<Operand<'a>, Refusal<TypeFault>>
     ensures { Gives operand_of result (operators.subscript (structs_of structs.now) bounds.0
         bounds.1
         (valued_of a.entry) (valued_of b.entry) offset) }
@@ -259,21 +262,21 @@ pub fn subscript<'a>(
         _ => {
             drop(a);
             drop(b);
-            Err(TypeFault::At(TypeFaultKind::Mismatch, offset))
+            Err(Refusal::Fault(TypeFault::At(TypeFaultKind::Mismatch, offset)))
         }
     }
 }
 
 /// The declared length of an array that an index is below; directly under `&` it may be the length.
 #[tactic(auto, unfolding(crate::specs::Operands::operand_of), using(crate::proofs::ByOuter::bounding),)]
-pub fn bound_of(place: Position, x: &Operand<'_>) -> Result<Option<usize>, TypeFault>
+pub fn bound_of(place: Position, x: &Operand<'_>) -> Result<Option<usize>, Refusal<TypeFault>>
     ensures { Gives (λ b. b) result (Ok (operators.bound_of place (operand_of x.now))) }
 {
     match x.of.outer() {
         Outer::Array(Some(length)) => match place {
             Position::Addressed => match length.checked_add(1) {
                 Some(bound) => Ok(Some(bound as usize)),
-                None => Err(TypeFault::Memory),
+                None => Err(Refusal::NoMemory),
             },
             Position::Operand | Position::Statement => Ok(Some(length as usize)),
         },
@@ -288,7 +291,7 @@ pub fn address_of<'a>(
     alloc: Global,
     x: Operand<'a>,
     offset: usize,
-) -> Result<Operand<'a>, TypeFault>
+) -> Result<Operand<'a>, Refusal<TypeFault>>
     ensures { Gives operand_of result (operators.address_of (operand_of x.entry) offset) }
 {
     let Operand {
@@ -301,12 +304,12 @@ pub fn address_of<'a>(
         Category::Value(_) => {
             drop(category);
             drop(of);
-            Err(TypeFault::At(TypeFaultKind::NotLvalue, offset))
+            Err(Refusal::Fault(TypeFault::At(TypeFaultKind::NotLvalue, offset)))
         }
         Category::InLocal(_) => {
             drop(category);
             drop(of);
-            Err(TypeFault::At(TypeFaultKind::AddressOfLocal, offset))
+            Err(Refusal::Fault(TypeFault::At(TypeFaultKind::AddressOfLocal, offset)))
         }
         Category::InMemory(address, displacement) => {
             let core = attempt_or_drop!(displaced(alloc, address, displacement, at); of);

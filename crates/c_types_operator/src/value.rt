@@ -12,7 +12,7 @@ ghost use Rattle.c_types_operator.specs.Operands.{core_in, operand_of, valued_of
 use crate::operand::{
     Category, Operand, Valued, core_or_memory, displaced, part_or_memory, type_or_memory,
 };
-use attempt::attempt;
+use attempt::{Refusal, attempt};
 use c_types_core::constants::constant_value;
 use c_types_core::expression::Core;
 use c_types_core::fault::TypeFault;
@@ -29,7 +29,7 @@ fn load<'a>(
     address: Box<Core<'a>>,
     displacement: usize,
     offset: usize,
-) -> Result<Valued<'a>, TypeFault>
+) -> Result<Valued<'a>, Refusal<TypeFault>>
     ensures { Gives valued_of result (Ok (rule.valued (core.Load scalar (core_in address.entry)
         displacement offset) (ctype_of of) standing.Computed offset)) }
 {
@@ -51,14 +51,14 @@ fn decay<'a>(
     address: Box<Core<'a>>,
     displacement: usize,
     offset: usize,
-) -> Result<Valued<'a>, TypeFault>
+) -> Result<Valued<'a>, Refusal<TypeFault>>
     ensures { Gives valued_of result (decayed (element_of (ctype_of of)) (core_in address.entry)
         displacement offset) }
 {
     let found = of.element();
     drop(of);
     let Some(element) = attempt!(part_or_memory(found)) else {
-        return Err(TypeFault::At(TypeFaultKind::Mismatch, offset));
+        return Err(Refusal::Fault(TypeFault::At(TypeFaultKind::Mismatch, offset)));
     };
     let pointer = attempt!(type_or_memory(element.pointer()));
     let core = attempt_or_drop!(displaced(alloc, address, displacement, offset); pointer);
@@ -78,21 +78,21 @@ fn loaded<'a>(
     address: Box<Core<'a>>,
     displacement: usize,
     offset: usize,
-) -> Result<Valued<'a>, TypeFault>
+) -> Result<Valued<'a>, Refusal<TypeFault>>
     ensures { Gives valued_of result (rule.loaded (ctype_of of) (core_in address.entry)
         displacement offset) }
 {
     match of.outer() {
         Outer::Void => {
             drop(of);
-            Err(TypeFault::At(TypeFaultKind::Incomplete, offset))
+            Err(Refusal::Fault(TypeFault::At(TypeFaultKind::Incomplete, offset)))
         }
         Outer::Integer(scalar) => load(alloc, scalar, of, address, displacement, offset),
         Outer::Pointer => load(alloc, WORD, of, address, displacement, offset),
         Outer::Array(_) => decay(alloc, of, address, displacement, offset),
         Outer::Struct(_) => {
             drop(of);
-            Err(TypeFault::At(TypeFaultKind::LeftOut(LeftOut::Struct), offset))
+            Err(Refusal::Fault(TypeFault::At(TypeFaultKind::LeftOut(LeftOut::Struct), offset)))
         }
     }
 }
@@ -104,7 +104,7 @@ pub fn read_local<'a>(
     of: CType,
     local: usize,
     offset: usize,
-) -> Result<Valued<'a>, TypeFault>
+) -> Result<Valued<'a>, Refusal<TypeFault>>
     ensures { Gives valued_of result (rule.read_local (ctype_of of) local offset) }
 {
     match of.scalar() {
@@ -120,14 +120,14 @@ pub fn read_local<'a>(
         }
         None => {
             drop(of);
-            Err(TypeFault::At(TypeFaultKind::Mismatch, offset))
+            Err(Refusal::Fault(TypeFault::At(TypeFaultKind::Mismatch, offset)))
         }
     }
 }
 
 /// The value of an operand.
 #[tactic(auto, unfolding(crate::specs::Operands::valued_of, crate::specs::Operands::operand_of, c_types_spec::specs::Operands::value_of,),)]
-pub fn value_of<'a>(alloc: Global, x: Operand<'a>) -> Result<Valued<'a>, TypeFault>
+pub fn value_of<'a>(alloc: Global, x: Operand<'a>) -> Result<Valued<'a>, Refusal<TypeFault>>
     ensures { Gives valued_of result (rule.value_of (operand_of x.entry)) }
 {
     let Operand {
@@ -152,20 +152,20 @@ pub fn value_of<'a>(alloc: Global, x: Operand<'a>) -> Result<Valued<'a>, TypeFau
 
 /// The value of an integer constant expression, or none.
 #[tactic(auto, unfolding(crate::specs::Operands::valued_of))]
-pub fn constant_of(x: &Valued<'_>) -> Result<Option<i128>, TypeFault>
+pub fn constant_of(x: &Valued<'_>) -> Result<Option<i128>, Refusal<TypeFault>>
     ensures { Gives (λ v. v) result (Ok (rule.constant_of (valued_of x.now))) }
 {
     match x.standing {
         Standing::ConstantExpression => match constant_value(&x.core) {
             Ok(value) => Ok(value),
-            Err(_) => Err(TypeFault::Memory),
+            Err(_) => Err(Refusal::NoMemory),
         },
         Standing::Computed | Standing::NullPointer => Ok(None),
     }
 }
 
 /// It is an integer constant expression of value 0.
-pub(crate) fn is_zero(x: &Valued<'_>) -> Result<bool, TypeFault>
+pub(crate) fn is_zero(x: &Valued<'_>) -> Result<bool, Refusal<TypeFault>>
     ensures { Gives (λ v. v) result (Ok (rule.is_zero (rule.constant_of (valued_of x.now)))) }
 {
     match attempt!(constant_of(x)) {
@@ -176,7 +176,7 @@ pub(crate) fn is_zero(x: &Valued<'_>) -> Result<bool, TypeFault>
 
 /// It is a null pointer constant.
 #[tactic(auto, unfolding(crate::specs::Operands::valued_of, c_types_spec::specs::Operands::is_null))]
-pub fn is_null(x: &Valued<'_>) -> Result<bool, TypeFault>
+pub fn is_null(x: &Valued<'_>) -> Result<bool, Refusal<TypeFault>>
     ensures { Gives (λ v. v) result (Ok (rule.is_null (valued_of x.now))) }
 {
     match x.standing {

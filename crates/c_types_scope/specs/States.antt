@@ -5,8 +5,10 @@ use Rattle.std.specs.Borrow.{Bor}
 use Rattle.std.specs.declared.alloc.Global.{Global}
 use Rattle.c_types_spec.specs.Names as names
 use Rattle.c_types_layout.specs.Structs.{structs_of}
+use Rattle.attempt.specs.declared.refusal.Refusal.{Refusal}
+use Rattle.attempt.specs.declared.refusal.Refusal.TheVariants.{Fault, NoMemory}
 use Rattle.c_types_core.specs.declared.fault.TypeFault.{TypeFault}
-use Rattle.c_types_core.specs.declared.fault.TypeFault.TheVariants.{Memory, At}
+use Rattle.c_types_core.specs.declared.fault.TypeFault.TheVariants.{At}
 use Rattle.c_types_scope.specs.declared.state.State.{State}
 use Rattle.c_types_scope.specs.Meanings.{types_in, seen_meaning, seen_tag, scopes_by}
 
@@ -26,10 +28,10 @@ state_of state = record {
 }
 
 -- the program gives what the definition gives, as seen by the view, and ends in the state of the definition
-abbrev pub Runs : {A B : Type 0} → (view : A → B) → Result A TypeFault → (after : State) → Result (B × names.State) names.Fault → Type 0
+abbrev pub Runs : {A B : Type 0} → (view : A → B) → Result A (Refusal TypeFault) → (after : State) → Result (B × names.State) names.Fault → Type 0
 Runs view (Ok x) after given = given ≡ Ok (view x, state_of after)
-Runs view (Err Memory) after given = Unit {0}
-Runs view (Err (At kind offset)) after given = given ≡ Err (kind, offset)
+Runs view (Err NoMemory) after given = Unit {0}
+Runs view (Err (Fault (At kind offset))) after given = given ≡ Err (kind, offset)
 
 -- what is done, where nothing is given
 abbrev pub nothing : {A : Type 0} → A → Unit {0}

@@ -10,7 +10,7 @@ ghost use Rattle.c_types_scope.specs.States.{state_of, nothing, Runs};
 
 use crate::meaning::{Meaning, Tag};
 use crate::scopes::Scopes;
-use attempt::attempt;
+use attempt::{Refusal, attempt};
 use c_types_core::fault::TypeFault;
 use c_types_layout::structs::Definition;
 use c_types_layout::types::CType;
@@ -38,23 +38,23 @@ pub struct State<'a> {
 }
 
 /// Out of memory, where there is no memory for a part of the state.
-fn or_memory(made: Result<(), AllocError>) -> Result<(), TypeFault>
-    ensures { MatchResult result (λ x. made ≡ Ok x) (λ e. e ≡ TypeFault.Memory) }
+fn or_memory(made: Result<(), AllocError>) -> Result<(), Refusal<TypeFault>>
+    ensures { MatchResult result (λ x. made ≡ Ok x) (λ e. e ≡ Refusal.NoMemory) }
 {
     match made {
         Ok(()) => Ok(()),
-        Err(_) => Err(TypeFault::Memory),
+        Err(_) => Err(Refusal::NoMemory),
     }
 }
 
 /// One more item of a list.
-pub fn push<T: Drop>(list: &mut Vec<T>, item: T) -> Result<(), TypeFault>
+pub fn push<T: Drop>(list: &mut Vec<T>, item: T) -> Result<(), Refusal<TypeFault>>
     ensures { MatchResult result (λ _. list.new.items ≡ list.old.items ++ item ∷ []) (λ e. e
-        ≡ TypeFault.Memory) }
+        ≡ Refusal.NoMemory) }
 {
     match list.push(item) {
         Ok(()) => Ok(()),
-        Err(_) => Err(TypeFault::Memory),
+        Err(_) => Err(Refusal::NoMemory),
     }
 }
 
@@ -133,18 +133,22 @@ impl<'a> State<'a> {
     }
 
     /// Declares a name in the innermost scope.
-    pub fn declare(&mut self, name: &'a [u8], meaning: Meaning) -> Result<(), TypeFault>
+    pub fn declare(&mut self, name: &'a [u8], meaning: Meaning) -> Result<(), Refusal<TypeFault>>
         ensures { Runs nothing result self.new (rule.declare name.now (meaning_of meaning)
             (state_of self.old)) }
     {
         match self.names.declare(name, meaning) {
             Ok(()) => Ok(()),
-            Err(_) => Err(TypeFault::Memory),
+            Err(_) => Err(Refusal::NoMemory),
         }
     }
 
     /// Declares a name in the file scope.
-    pub fn declare_in_file(&mut self, name: &'a [u8], meaning: Meaning) -> Result<(), TypeFault>
+    pub fn declare_in_file(
+        &mut self,
+        name: &'a [u8],
+        meaning: Meaning,
+    ) -> Result<(), Refusal<TypeFault>>
         ensures { Runs nothing result self.new (rule.change (λ st. record st {
           names = rule.declared_in_file name.now (meaning_of meaning) st.names;
         }) (state_of
@@ -152,23 +156,23 @@ impl<'a> State<'a> {
     {
         match self.names.declare_in_file(name, meaning) {
             Ok(()) => Ok(()),
-            Err(_) => Err(TypeFault::Memory),
+            Err(_) => Err(Refusal::NoMemory),
         }
     }
 
     /// Declares a tag in the innermost scope.
-    pub fn declare_tag(&mut self, tag: &'a [u8], meaning: Tag) -> Result<(), TypeFault>
+    pub fn declare_tag(&mut self, tag: &'a [u8], meaning: Tag) -> Result<(), Refusal<TypeFault>>
         ensures { Runs nothing result self.new (rule.declare_tag tag.now (tag_of meaning)
             (state_of self.old)) }
     {
         match self.tags.declare(tag, meaning) {
             Ok(()) => Ok(()),
-            Err(_) => Err(TypeFault::Memory),
+            Err(_) => Err(Refusal::NoMemory),
         }
     }
 
     /// Opens a block.
-    pub fn open(&mut self) -> Result<(), TypeFault>
+    pub fn open(&mut self) -> Result<(), Refusal<TypeFault>>
         ensures { Runs nothing result self.new (rule.change rule.open_block (state_of self.old)) }
     {
         or_memory(self.names.open())?;
@@ -193,7 +197,7 @@ impl<'a> State<'a> {
     }
 
     /// One more struct, and its number.
-    pub fn new_struct(&mut self, definition: Definition<'a>) -> Result<usize, TypeFault>
+    pub fn new_struct(&mut self, definition: Definition<'a>) -> Result<usize, Refusal<TypeFault>>
         ensures { Runs (λ n. n) result self.new (rule.new_struct (definition_of definition.entry)
             (state_of self.old)) }
     {
@@ -213,7 +217,7 @@ impl<'a> State<'a> {
     }
 
     /// One more local, and its number.
-    pub fn new_local(&mut self, of: CType) -> Result<usize, TypeFault>
+    pub fn new_local(&mut self, of: CType) -> Result<usize, Refusal<TypeFault>>
         ensures { Runs (λ n. n) result self.new (rule.new_local (type_of of) (state_of self.old)) }
     {
         let number = self.locals.len();
@@ -222,7 +226,7 @@ impl<'a> State<'a> {
     }
 
     /// One more local for the result of a call, and its number among these.
-    pub fn new_result(&mut self, of: CType) -> Result<usize, TypeFault>
+    pub fn new_result(&mut self, of: CType) -> Result<usize, Refusal<TypeFault>>
         ensures { Runs (λ n. n) result self.new (rule.new_result (type_of of) (state_of self.old)) }
     {
         let number = self.results.len();
@@ -231,7 +235,7 @@ impl<'a> State<'a> {
     }
 
     /// One more loop, and its number.
-    pub fn new_loop(&mut self) -> Result<usize, TypeFault>
+    pub fn new_loop(&mut self) -> Result<usize, Refusal<TypeFault>>
         ensures { Runs (λ n. n) result self.new (rule.new_loop (state_of self.old)) }
     {
         let number = self.loops;
@@ -240,12 +244,12 @@ impl<'a> State<'a> {
                 self.loops = more;
                 Ok(number)
             }
-            None => Err(TypeFault::Memory),
+            None => Err(Refusal::NoMemory),
         }
     }
 
     /// One more call, and its number.
-    pub fn new_call(&mut self) -> Result<usize, TypeFault>
+    pub fn new_call(&mut self) -> Result<usize, Refusal<TypeFault>>
         ensures { Runs (λ n. n) result self.new (rule.new_call (state_of self.old)) }
     {
         let number = self.calls;
@@ -254,12 +258,12 @@ impl<'a> State<'a> {
                 self.calls = more;
                 Ok(number)
             }
-            None => Err(TypeFault::Memory),
+            None => Err(Refusal::NoMemory),
         }
     }
 
     /// One more global that is named.
-    pub fn mention(&mut self, name: &'a [u8]) -> Result<(), TypeFault>
+    pub fn mention(&mut self, name: &'a [u8]) -> Result<(), Refusal<TypeFault>>
         ensures { Runs nothing result self.new (rule.mention name.now (state_of self.old)) }
     {
         push(&mut self.mentions, name)

@@ -11,7 +11,7 @@ ghost use Rattle.c_types_scope.specs.States.{state_of, Runs};
 ghost use Rattle.c_types_simple.specs.Contexts.{action_in};
 
 use crate::context::action_or_memory;
-use attempt::attempt;
+use attempt::{Refusal, attempt};
 use c_syntax_spec::{BinaryOperator, StepOperator};
 use c_types_core::action::Action;
 use c_types_core::constants::INT;
@@ -47,7 +47,7 @@ fn stored<'a>(
     x: Operand<'a>,
     core: Box<Core<'a>>,
     offset: usize,
-) -> Result<Box<Action<'a>>, TypeFault>
+) -> Result<Box<Action<'a>>, Refusal<TypeFault>>
     ensures { Gives action_in result
         (rule.stored (operand_of x.entry) (core_in core.entry) offset) }
 {
@@ -62,7 +62,7 @@ fn stored<'a>(
     match category {
         Category::Value(_) => {
             drop(category);
-            Err(TypeFault::At(TypeFaultKind::NotLvalue, offset))
+            Err(Refusal::Fault(TypeFault::At(TypeFaultKind::NotLvalue, offset)))
         }
         Category::InLocal(local) => {
             drop(category);
@@ -77,7 +77,7 @@ fn stored<'a>(
                 core,
                 offset,
             )),
-            None => Err(TypeFault::At(TypeFaultKind::Mismatch, offset)),
+            None => Err(Refusal::Fault(TypeFault::At(TypeFaultKind::Mismatch, offset))),
         },
     }
 }
@@ -88,13 +88,13 @@ pub fn assigned_value<'a>(
     of: &CType,
     v: Valued<'a>,
     offset: usize,
-) -> Result<Box<Core<'a>>, TypeFault>
+) -> Result<Box<Core<'a>>, Refusal<TypeFault>>
     ensures { Gives core_in result (operands.or_mismatch (operands.assigned (ctype_of of.now)
         (valued_of v.entry)) offset) }
 {
     match attempt!(assigned(alloc, of, v)) {
         Some(core) => Ok(core),
-        None => Err(TypeFault::At(TypeFaultKind::Mismatch, offset)),
+        None => Err(Refusal::Fault(TypeFault::At(TypeFaultKind::Mismatch, offset))),
     }
 }
 
@@ -105,14 +105,14 @@ pub fn assignment<'a>(
     x: Operand<'a>,
     v: Valued<'a>,
     offset: usize,
-) -> Result<Box<Action<'a>>, TypeFault>
+) -> Result<Box<Action<'a>>, Refusal<TypeFault>>
     ensures { Gives action_in result (rule.assignment (operand_of x.entry) (valued_of v.entry)
         offset) }
 {
     if !is_assignable(&x) {
         drop(x);
         drop(v);
-        return Err(TypeFault::At(TypeFaultKind::NotLvalue, offset));
+        return Err(Refusal::Fault(TypeFault::At(TypeFaultKind::NotLvalue, offset)));
     }
     let core = attempt_or_drop!(assigned_value(alloc, &x.of, v, offset); x);
     stored(alloc, x, core, offset)
@@ -120,7 +120,7 @@ pub fn assignment<'a>(
 
 /// The object that is assigned to, as a value.
 #[tactic(auto, unfolding(c_types_operator::specs::Operands::valued_of))]
-fn target<'a>(alloc: Global, of: CType, offset: usize) -> Result<Valued<'a>, TypeFault>
+fn target<'a>(alloc: Global, of: CType, offset: usize) -> Result<Valued<'a>, Refusal<TypeFault>>
     ensures { Gives valued_of result
         (rule.target_value (ctype_of of) (types.scalar_of (ctype_of of))
         offset) }
@@ -137,21 +137,21 @@ fn target<'a>(alloc: Global, of: CType, offset: usize) -> Result<Valued<'a>, Typ
         }
         None => {
             drop(of);
-            Err(TypeFault::At(TypeFaultKind::LeftOut(LeftOut::Struct), offset))
+            Err(Refusal::Fault(TypeFault::At(TypeFaultKind::LeftOut(LeftOut::Struct), offset)))
         }
     }
 }
 
 /// The value of an object that is assigned to.
 #[tactic(auto, unfolding(c_types_operator::specs::Operands::operand_of, c_types_spec::specs::Statements::current, c_types_spec::specs::Operands::value_of))]
-fn current<'a>(alloc: Global, x: &Operand<'a>) -> Result<Valued<'a>, TypeFault>
+fn current<'a>(alloc: Global, x: &Operand<'a>) -> Result<Valued<'a>, Refusal<TypeFault>>
     ensures { Gives valued_of result (rule.current (operand_of x.now)) }
 {
     let of = attempt!(type_or_memory(x.of.copy(alloc)));
     match &x.category {
         Category::Value(_) => {
             drop(of);
-            Err(TypeFault::Memory)
+            Err(Refusal::NoMemory)
         }
         Category::InLocal(local) => read_local(alloc, of, *local, x.offset),
         Category::InMemory(_, _) => target(alloc, of, x.offset),
@@ -167,7 +167,7 @@ pub fn compound<'a>(
     b: Valued<'a>,
     offset: usize,
     state: &State<'a>,
-) -> Result<Box<Action<'a>>, TypeFault>
+) -> Result<Box<Action<'a>>, Refusal<TypeFault>>
     ensures { Runs action_in result state.now
         (rule.compound operator (operand_of x.entry) (valued_of
         b.entry) offset (state_of state.now)) }
@@ -175,7 +175,7 @@ pub fn compound<'a>(
     if !is_assignable(&x) {
         drop(x);
         drop(b);
-        return Err(TypeFault::At(TypeFaultKind::NotLvalue, offset));
+        return Err(Refusal::Fault(TypeFault::At(TypeFaultKind::NotLvalue, offset)));
     }
     let a = attempt_or_drop!(current(alloc, &x); x, b);
     let made = attempt_or_drop!(binary_rule(alloc, operator, state.structs(), a, b, offset); x);
@@ -195,7 +195,7 @@ pub fn step_operator(operator: StepOperator) -> BinaryOperator
 
 /// The 1 that is added or taken away.
 #[tactic(auto, unfolding(c_types_operator::specs::Operands::valued_of, c_types_layout::specs::Types::type_of))]
-pub fn one<'a>(alloc: Global, offset: usize) -> Result<Valued<'a>, TypeFault>
+pub fn one<'a>(alloc: Global, offset: usize) -> Result<Valued<'a>, Refusal<TypeFault>>
     ensures { Gives valued_of result (Ok (rule.one offset)) }
 {
     let core = attempt!(core_or_memory(Core::constant(alloc, INT, 1)));

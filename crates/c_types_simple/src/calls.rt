@@ -21,7 +21,7 @@ ghost use Rattle.c_types_simple.specs.Calls.{after};
 
 use crate::assignment::{assigned_value, assignment, is_assignable};
 use crate::context::{Context, action_or_memory};
-use attempt::attempt;
+use attempt::{Refusal, attempt};
 use c_syntax::expression::{Expression, Name};
 use c_syntax::simple::Call;
 use c_types_core::action::Action;
@@ -61,7 +61,7 @@ fn arguments<'a>(
     list: &[Box<Expression<'a>>],
     values: &mut Vec<Valued<'a>>,
     state: &mut State<'a>,
-) -> Result<(), TypeFault>
+) -> Result<(), Refusal<TypeFault>>
     ensures { Runs (λ _. values_in values.new.items) result state.new (rule.arguments
         (expressions_in list.now) (values_in values.old.items) (state_of state.old)) }
 {
@@ -80,7 +80,7 @@ fn pass<'a>(
     types: &[CType],
     values: Vec<Valued<'a>>,
     cores: &mut Vec<Box<Core<'a>>>,
-) -> Result<bool, TypeFault>
+) -> Result<bool, Refusal<TypeFault>>
     ensures { Gives (λ all. if all then Some (cores_in cores.new) else None) result (Ok (after
         (cores_in cores.old) (rule.passed (map type_of types.now)
         (values_in values.entry.items)))) }
@@ -115,7 +115,7 @@ fn made_by<'a>(
     callee: Name<'a>,
     values: Vec<Valued<'a>>,
     number: usize,
-) -> Result<Box<Made<'a>>, TypeFault>
+) -> Result<Box<Made<'a>>, Refusal<TypeFault>>
     ensures { Gives (λ m. made_of m.value) result
         (rule.made_of (signature_of signature.now) (name_of
         callee.entry) (values_in values.entry.items) number) }
@@ -127,7 +127,7 @@ fn made_by<'a>(
         values,
         &mut arguments
     )) {
-        return Err(TypeFault::At(TypeFaultKind::Mismatch, callee.offset));
+        return Err(Refusal::Fault(TypeFault::At(TypeFaultKind::Mismatch, callee.offset)));
     }
     let of = attempt!(type_or_memory(signature.returned.copy(alloc)));
     boxed(
@@ -143,12 +143,12 @@ fn made_by<'a>(
 }
 
 /// A call in memory of its own.
-fn boxed<'a>(alloc: Global, made: Made<'a>) -> Result<Box<Made<'a>>, TypeFault>
+fn boxed<'a>(alloc: Global, made: Made<'a>) -> Result<Box<Made<'a>>, Refusal<TypeFault>>
     ensures { Gives (λ m. m.value) result (Ok made.entry) }
 {
     match Box::new(alloc, made) {
         Ok(made) => Ok(made),
-        Err(_) => Err(TypeFault::Memory),
+        Err(_) => Err(Refusal::NoMemory),
     }
 }
 
@@ -170,7 +170,7 @@ fn called<'a>(
     values: Vec<Valued<'a>>,
     number: usize,
     state: &State<'a>,
-) -> Result<Box<Made<'a>>, TypeFault>
+) -> Result<Box<Made<'a>>, Refusal<TypeFault>>
     ensures { Gives (λ m. made_of m.value) result (rule.called_by (names.in_scope (state_of
         state.now).names callee.entry.spelling.now) (name_of callee.entry) (values_in
         values.entry.items) number) }
@@ -179,7 +179,7 @@ fn called<'a>(
         Some(Some(Meaning::Function(signature, _))) => {
             made_by(alloc, signature, callee, values, number)
         }
-        _ => Err(TypeFault::At(TypeFaultKind::Mismatch, callee.offset)),
+        _ => Err(Refusal::Fault(TypeFault::At(TypeFaultKind::Mismatch, callee.offset))),
     }
 }
 
@@ -189,7 +189,7 @@ fn numbered<'a>(
     callee: Name<'a>,
     values: Vec<Valued<'a>>,
     state: &mut State<'a>,
-) -> Result<Box<Made<'a>>, TypeFault>
+) -> Result<Box<Made<'a>>, Refusal<TypeFault>>
     ensures { Runs (λ m. made_of m.value) result state.new (specs.numbered (name_of callee.entry)
         (values_in values.entry.items) (state_of state.old)) }
 {
@@ -202,7 +202,7 @@ fn known_call<'a>(
     alloc: Global,
     made: &Call<'a>,
     state: &mut State<'a>,
-) -> Result<Box<Made<'a>>, TypeFault>
+) -> Result<Box<Made<'a>>, Refusal<TypeFault>>
     ensures { Runs (λ m. made_of m.value) result state.new (specs.known_call (call_of made.now)
         (state_of state.old)) }
 {
@@ -217,14 +217,14 @@ pub fn call<'a>(
     alloc: Global,
     made: &Call<'a>,
     state: &mut State<'a>,
-) -> Result<Box<Made<'a>>, TypeFault>
+) -> Result<Box<Made<'a>>, Refusal<TypeFault>>
     ensures { Runs (λ m. made_of m.value) result state.new (rule.call (call_of made.now) (state_of
         state.old)) }
 {
     if is_known(state, made.callee) {
         known_call(alloc, made, state)
     } else {
-        Err(TypeFault::At(TypeFaultKind::Unknown, made.callee.offset))
+        Err(Refusal::Fault(TypeFault::At(TypeFaultKind::Unknown, made.callee.offset)))
     }
 }
 
@@ -234,7 +234,7 @@ pub fn call_into<'a>(
     alloc: Global,
     made: Box<Made<'a>>,
     local: Option<usize>,
-) -> Result<Box<Action<'a>>, TypeFault>
+) -> Result<Box<Action<'a>>, Refusal<TypeFault>>
     ensures { Gives action_in result (Ok (rule.call_into (made_of made.entry.value) local)) }
 {
     let Made {
@@ -255,7 +255,7 @@ fn further_local<'a>(
     context: Context<'_>,
     made: &Made<'a>,
     state: &mut State<'a>,
-) -> Result<(usize, Valued<'a>), TypeFault>
+) -> Result<(usize, Valued<'a>), Refusal<TypeFault>>
     ensures { Runs seen_local result state.new (specs.further_local (context_of context.entry)
         (made_of made.now) (state_of state.old)) }
 {
@@ -267,7 +267,7 @@ fn further_local<'a>(
             let v = attempt!(read_local(alloc, of, local, made.offset));
             Ok((local, v))
         }
-        None => Err(TypeFault::Memory),
+        None => Err(Refusal::NoMemory),
     }
 }
 
@@ -276,7 +276,7 @@ pub fn both<'a>(
     alloc: Global,
     first: Box<Action<'a>>,
     second: Box<Action<'a>>,
-) -> Result<Box<Action<'a>>, TypeFault>
+) -> Result<Box<Action<'a>>, Refusal<TypeFault>>
     ensures { Gives action_in result (Ok (core.Sequence (action_in first.entry) (action_in
         second.entry))) }
 {
@@ -290,7 +290,7 @@ pub fn both<'a>(
 pub fn push_action<'a>(
     actions: &mut Vec<Action<'a>>,
     action: Box<Action<'a>>,
-) -> Result<(), TypeFault>
+) -> Result<(), Refusal<TypeFault>>
     ensures { Gives (λ _. actions_in actions.new) result (Ok (actions_in actions.old ++ action_in
         action.entry ∷ [])) }
 {
@@ -306,7 +306,7 @@ fn through_global<'a>(
     made: Box<Made<'a>>,
     offset: usize,
     state: &mut State<'a>,
-) -> Result<Box<Action<'a>>, TypeFault>
+) -> Result<Box<Action<'a>>, Refusal<TypeFault>>
     ensures { Runs action_in result state.new
         (rule.through_local (context_of context.entry) (made_of
         made.entry.value) (λ v. rule.assignment (operand_of x.entry) v offset) (state_of
@@ -324,7 +324,7 @@ pub fn through_return<'a>(
     context: Context<'_>,
     made: Box<Made<'a>>,
     state: &mut State<'a>,
-) -> Result<Box<Action<'a>>, TypeFault>
+) -> Result<Box<Action<'a>>, Refusal<TypeFault>>
     ensures { Runs action_in result state.new
         (rule.through_local (context_of context.entry) (made_of
         made.entry.value) (λ v. rule.return_value (context_of context.entry) v) (state_of
@@ -342,7 +342,7 @@ pub fn return_value<'a>(
     alloc: Global,
     context: Context<'_>,
     v: Valued<'a>,
-) -> Result<Box<Action<'a>>, TypeFault>
+) -> Result<Box<Action<'a>>, Refusal<TypeFault>>
     ensures { Gives action_in result (rule.return_value (context_of context.entry) (valued_of
         v.entry)) }
 {
@@ -360,7 +360,7 @@ fn call_stored<'a>(
     made: Box<Made<'a>>,
     offset: usize,
     state: &mut State<'a>,
-) -> Result<Box<Action<'a>>, TypeFault>
+) -> Result<Box<Action<'a>>, Refusal<TypeFault>>
     ensures { Runs action_in result state.new
         (rule.call_stored (context_of context.entry) (operand_of
         x.entry) (made_of made.entry.value) offset (state_of state.old)) }
@@ -368,7 +368,7 @@ fn call_stored<'a>(
     match &x.category {
         Category::Value(_) => {
             drop(x);
-            Err(TypeFault::At(TypeFaultKind::NotLvalue, offset))
+            Err(Refusal::Fault(TypeFault::At(TypeFaultKind::NotLvalue, offset)))
         }
         Category::InLocal(local) => {
             let local = *local;
@@ -386,7 +386,7 @@ fn call_faults(
     is_plain: bool,
     made: &Made<'_>,
     offset: usize,
-) -> Result<(), TypeFault>
+) -> Result<(), Refusal<TypeFault>>
     ensures { Gives nothing result (specs.call_faults (operand_of x.now) is_plain (made_of made.now)
         offset) }
 {
@@ -410,7 +410,7 @@ pub fn call_assignment<'a>(
     made: Box<Made<'a>>,
     offset: usize,
     state: &mut State<'a>,
-) -> Result<Box<Action<'a>>, TypeFault>
+) -> Result<Box<Action<'a>>, Refusal<TypeFault>>
     ensures { Runs action_in result state.new (rule.call_assignment (context_of context.entry)
         (operand_of x.entry) is_plain (made_of made.entry.value) offset (state_of state.old)) }
 {

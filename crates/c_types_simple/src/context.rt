@@ -3,6 +3,7 @@
 ghost use Rattle.std.specs.Prelude.{◌≡◌, Ok, MatchResult};
 ghost use Rattle.c_types_simple.specs.Contexts.{action_in, context_of};
 
+use attempt::Refusal;
 use c_types_core::action::Action;
 use c_types_core::fault::TypeFault;
 use c_types_layout::types::CType;
@@ -24,11 +25,11 @@ pub struct Context<'b> {
 /// Out of memory, where there is no memory for an action.
 pub fn action_or_memory<'a>(
     made: Result<Box<Action<'a>>, AllocError>,
-) -> Result<Box<Action<'a>>, TypeFault>
-    ensures { MatchResult result (λ x. made.entry ≡ Ok x) (λ e. e ≡ TypeFault.Memory) }
+) -> Result<Box<Action<'a>>, Refusal<TypeFault>>
+    ensures { MatchResult result (λ x. made.entry ≡ Ok x) (λ e. e ≡ Refusal.NoMemory) }
 {
     match made {
         Ok(action) => Ok(action),
-        Err(_) => Err(TypeFault::Memory),
+        Err(_) => Err(Refusal::NoMemory),
     }
 }

@@ -14,7 +14,7 @@ ghost use Rattle.c_types_simple.specs.Contexts.{action_in};
 use crate::assignment::assigned_value;
 use crate::calls::{call, call_into, push_action};
 use crate::context::action_or_memory;
-use attempt::attempt;
+use attempt::{Refusal, attempt};
 use c_syntax::simple::Value;
 use c_syntax::statement::{Local, Locals};
 use c_types_core::action::Action;
@@ -37,7 +37,7 @@ fn initial<'a>(
     local: usize,
     offset: usize,
     state: &mut State<'a>,
-) -> Result<Box<Action<'a>>, TypeFault>
+) -> Result<Box<Action<'a>>, Refusal<TypeFault>>
     ensures { Runs action_in result state.new (rule.initial (option_map (λ v. tree_value_of v.value)
         given.now) (type_of of.now) local offset (state_of state.old)) }
 {
@@ -56,7 +56,7 @@ fn begins<'a>(
     local: usize,
     offset: usize,
     state: &mut State<'a>,
-) -> Result<Box<Action<'a>>, TypeFault>
+) -> Result<Box<Action<'a>>, Refusal<TypeFault>>
     ensures { Runs action_in result state.new
         (rule.initial (Some (tree_value_of given.now)) (type_of
         of.now) local offset (state_of state.old)) }
@@ -70,7 +70,7 @@ fn begins<'a>(
         Value::Called(source) => {
             let made = attempt!(call(alloc, source, state));
             if !converts(of, &made.of) {
-                return Err(TypeFault::At(TypeFaultKind::Mismatch, offset));
+                return Err(Refusal::Fault(TypeFault::At(TypeFaultKind::Mismatch, offset)));
             }
             call_into(alloc, made, Some(local))
         }
@@ -85,7 +85,7 @@ fn declared_local<'a>(
     base: &CType,
     is_static: bool,
     state: &mut State<'a>,
-) -> Result<Box<Action<'a>>, TypeFault>
+) -> Result<Box<Action<'a>>, Refusal<TypeFault>>
     ensures { Runs action_in result state.new (rule.declared_local (local_of declared.now) (type_of
         base.now) is_static (state_of state.old)) }
 {
@@ -106,7 +106,7 @@ fn declared_locals<'a>(
     is_static: bool,
     done: &mut Vec<Action<'a>>,
     state: &mut State<'a>,
-) -> Result<(), TypeFault>
+) -> Result<(), Refusal<TypeFault>>
     ensures { Runs (λ _. actions_in done.new) result state.new (rule.declared_locals (map local_of
         (unboxed list.now)) (type_of base.now) is_static (actions_in done.old) (state_of
         state.old)) }
@@ -125,7 +125,7 @@ pub fn declaration<'a>(
     locals: &Locals<'a>,
     done: &mut Vec<Action<'a>>,
     state: &mut State<'a>,
-) -> Result<(), TypeFault>
+) -> Result<(), Refusal<TypeFault>>
     ensures { Runs (λ _. actions_in done.new) result state.new (rule.declaration (locals_of
         locals.now) (actions_in done.old) (state_of state.old)) }
 {

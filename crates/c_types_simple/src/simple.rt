@@ -12,7 +12,7 @@ ghost use Rattle.c_types_simple.specs.Contexts.{action_in, context_of};
 use crate::assignment::{assignment, compound, one, step_operator};
 use crate::calls::{call, call_assignment, call_into, return_value, through_return};
 use crate::context::{Context, action_or_memory};
-use attempt::attempt;
+use attempt::{Refusal, attempt};
 use c_syntax::expression::Expression;
 use c_syntax::simple::{Simple, Value};
 use c_syntax_spec::StepOperator;
@@ -53,7 +53,7 @@ fn assigned_from<'a>(
     given: &Value<'a>,
     offset: usize,
     state: &mut State<'a>,
-) -> Result<Box<Action<'a>>, TypeFault>
+) -> Result<Box<Action<'a>>, Refusal<TypeFault>>
     ensures { Runs action_in result state.new (rule.assigned_from (context_of context.entry)
         (expression_of target.now) (operand_of x.entry) (tree_value_of given.now) offset (state_of
         state.old)) }
@@ -84,7 +84,7 @@ fn evaluated<'a>(
     alloc: Global,
     given: &Value<'a>,
     state: &mut State<'a>,
-) -> Result<Box<Action<'a>>, TypeFault>
+) -> Result<Box<Action<'a>>, Refusal<TypeFault>>
     ensures { Runs action_in result state.new (rule.evaluated (tree_value_of given.now) (state_of
         state.old)) }
 {
@@ -109,7 +109,7 @@ fn stepped<'a>(
     target: &Expression<'a>,
     offset: usize,
     state: &mut State<'a>,
-) -> Result<Box<Action<'a>>, TypeFault>
+) -> Result<Box<Action<'a>>, Refusal<TypeFault>>
     ensures { Runs action_in result state.new (rule.stepped operator (expression_of target.now)
         offset (state_of state.old)) }
 {
@@ -125,7 +125,7 @@ pub fn simple<'a>(
     given: &Simple<'a>,
     context: Context<'_>,
     state: &mut State<'a>,
-) -> Result<Box<Action<'a>>, TypeFault>
+) -> Result<Box<Action<'a>>, Refusal<TypeFault>>
     ensures { Runs action_in result state.new (rule.simple (simple_of given.now) (context_of
         context.entry) (state_of state.old)) }
 {
@@ -155,7 +155,7 @@ fn returned_value<'a>(
     context: Context<'_>,
     offset: usize,
     state: &mut State<'a>,
-) -> Result<Box<Action<'a>>, TypeFault>
+) -> Result<Box<Action<'a>>, Refusal<TypeFault>>
     ensures { Runs action_in result state.new (rule.returned_from (Some (tree_value_of given.now))
         (context_of context.entry) offset (state_of state.old)) }
 {
@@ -179,14 +179,14 @@ pub fn returned_from<'a>(
     context: Context<'_>,
     offset: usize,
     state: &mut State<'a>,
-) -> Result<Box<Action<'a>>, TypeFault>
+) -> Result<Box<Action<'a>>, Refusal<TypeFault>>
     ensures { Runs action_in result state.new (rule.returned_from (option_map (λ v. tree_value_of
         v.value) given.now) (context_of context.entry) offset (state_of state.old)) }
 {
     match given {
         None => {
             if !is_void(context.returned) {
-                return Err(TypeFault::At(TypeFaultKind::Mismatch, offset));
+                return Err(Refusal::Fault(TypeFault::At(TypeFaultKind::Mismatch, offset)));
             }
             action_or_memory(Action::give_back(alloc, None))
         }

@@ -7,17 +7,17 @@ ghost use Rattle.c_types_spec.specs.Statements as rule;
 ghost use Rattle.c_types_expression.specs.Trees.{unboxed};
 ghost use Rattle.c_types_operator.specs.Gives.{Gives};
 
-use attempt::attempt;
+use attempt::{Refusal, attempt};
 use c_syntax::statement::{ForStart, Group, Part, Statement};
 use c_types_core::fault::TypeFault;
 
 /// A sum; out of memory where it is no `usize`.
-pub fn sum(a: usize, b: usize) -> Result<usize, TypeFault>
+pub fn sum(a: usize, b: usize) -> Result<usize, Refusal<TypeFault>>
     ensures { Gives (λ n. n) result (Ok (a + b)) }
 {
     match a.checked_add(b) {
         Some(sum) => Ok(sum),
-        None => Err(TypeFault::Memory),
+        None => Err(Refusal::NoMemory),
     }
 }
 
@@ -35,7 +35,7 @@ fn locals_at_start(start: &ForStart<'_>) -> usize
 /// How many locals a statement declares.
 #[cycle(counts)]
 #[tactic(auto, unfolding(c_types_spec::specs::Statements::locals_in), using(c_syntax::proofs::StatementViews::statement_views))]
-fn locals_in(x: &Statement<'_>) -> Result<usize, TypeFault>
+fn locals_in(x: &Statement<'_>) -> Result<usize, Refusal<TypeFault>>
     ensures { Gives (λ n. n) result (Ok (rule.locals_in (statement_of x.now))) }
 {
     match x {
@@ -61,7 +61,7 @@ fn locals_in(x: &Statement<'_>) -> Result<usize, TypeFault>
 /// How many locals one part declares.
 #[cycle(counts)]
 #[tactic(auto, unfolding(c_types_spec::specs::Statements::locals_of), using(c_syntax::proofs::StatementViews::statement_views, crate::proofs::Declared::declared))]
-fn locals_of_part(part: &Part<'_>) -> Result<usize, TypeFault>
+fn locals_of_part(part: &Part<'_>) -> Result<usize, Refusal<TypeFault>>
     ensures { Gives (λ n. n) result (Ok (rule.locals_of (parts_of (part_of part.now ∷ [])))) }
 {
     match part {
@@ -73,7 +73,7 @@ fn locals_of_part(part: &Part<'_>) -> Result<usize, TypeFault>
 /// How many locals the parts of a block declare.
 #[cycle(counts)]
 #[tactic(auto, using(crate::proofs::Declared::declared))]
-pub fn locals_of(list: &[Part<'_>]) -> Result<usize, TypeFault>
+pub fn locals_of(list: &[Part<'_>]) -> Result<usize, Refusal<TypeFault>>
     ensures { Gives (λ n. n) result (Ok (rule.locals_of (parts_of (map part_of list.now)))) }
 {
     let mut count = 0;
@@ -87,7 +87,7 @@ pub fn locals_of(list: &[Part<'_>]) -> Result<usize, TypeFault>
 /// How many locals a group of a `switch` declares.
 #[cycle(counts)]
 #[tactic(auto, using(crate::proofs::SwitchGroups::by_parts))]
-fn locals_of_group(group: &Group<'_>) -> Result<usize, TypeFault>
+fn locals_of_group(group: &Group<'_>) -> Result<usize, Refusal<TypeFault>>
     ensures { Gives (λ n. n) result (Ok (rule.locals_of (group_of group.now).1)) }
 {
     locals_of(group.parts.as_slice())
@@ -96,7 +96,7 @@ fn locals_of_group(group: &Group<'_>) -> Result<usize, TypeFault>
 /// How many locals the groups of a `switch` declare.
 #[cycle(counts)]
 #[tactic(auto, using(crate::proofs::Declared::declared))]
-fn locals_of_groups(list: &[Box<Group<'_>>]) -> Result<usize, TypeFault>
+fn locals_of_groups(list: &[Box<Group<'_>>]) -> Result<usize, Refusal<TypeFault>>
     ensures { Gives (λ n. n) result (Ok (rule.locals_of_groups (groups_of (map group_of (unboxed
         list.now))))) }
 {

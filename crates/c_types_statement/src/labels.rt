@@ -10,7 +10,7 @@ ghost use Rattle.c_types_scope.specs.States.{state_of, Runs};
 ghost use Rattle.c_types_simple.specs.Contexts.{seen_test};
 ghost use Rattle.c_types_statement.specs.Labels as specs;
 
-use attempt::attempt;
+use attempt::{Refusal, attempt};
 use c_syntax::expression::Expression;
 use c_syntax::statement::Label;
 use c_types_core::constants::has_width;
@@ -32,7 +32,7 @@ pub fn condition<'a>(
     alloc: Global,
     test: &Expression<'a>,
     state: &mut State<'a>,
-) -> Result<Box<Core<'a>>, TypeFault>
+) -> Result<Box<Core<'a>>, Refusal<TypeFault>>
     ensures { Runs core_in result state.new (rule.condition (expression_of test.now) (state_of
         state.old)) }
 {
@@ -42,7 +42,10 @@ pub fn condition<'a>(
 
 /// The test of a `switch`, which is an integer and is promoted, and its type.
 #[tactic(auto, unfolding(c_types_spec::specs::Statements::switch_test, c_types_operator::specs::Operands::valued_of))]
-pub fn switch_test<'a>(alloc: Global, v: Valued<'a>) -> Result<(Box<Core<'a>>, Scalar), TypeFault>
+pub fn switch_test<'a>(
+    alloc: Global,
+    v: Valued<'a>,
+) -> Result<(Box<Core<'a>>, Scalar), Refusal<TypeFault>>
     ensures { Gives seen_test result (rule.switch_test (valued_of v.entry)) }
 {
     match v.of.integer() {
@@ -55,7 +58,7 @@ pub fn switch_test<'a>(alloc: Global, v: Valued<'a>) -> Result<(Box<Core<'a>>, S
         None => {
             let offset = v.offset;
             drop(v);
-            Err(TypeFault::At(TypeFaultKind::Mismatch, offset))
+            Err(Refusal::Fault(TypeFault::At(TypeFaultKind::Mismatch, offset)))
         }
     }
 }
@@ -67,7 +70,7 @@ fn label<'a>(
     given: &Label<'a>,
     of: Scalar,
     state: &mut State<'a>,
-) -> Result<(Option<i128>, usize), TypeFault>
+) -> Result<(Option<i128>, usize), Refusal<TypeFault>>
     ensures { Runs (λ l. l) result state.new (rule.label (label_of given.now) of (state_of
         state.old)) }
 {
@@ -79,7 +82,7 @@ fn label<'a>(
             drop(v);
             let constant = attempt!(found);
             if !has_width(of) {
-                return Err(TypeFault::Memory);
+                return Err(Refusal::NoMemory);
             }
             Ok((Some(convert_value(constant, of)), offset))
         }
@@ -92,13 +95,13 @@ fn add_label(
     seen: &mut IndexSet<Option<i128>>,
     made: Option<i128>,
     offset: usize,
-) -> Result<(), TypeFault>
+) -> Result<(), Refusal<TypeFault>>
     ensures { Gives (λ _. seen.new.keys) result (specs.with_label seen.old.keys made offset) }
 {
     match seen.insert(made) {
         Ok(true) => Ok(()),
-        Ok(false) => Err(TypeFault::At(TypeFaultKind::Twice, offset)),
-        Err(_) => Err(TypeFault::Memory),
+        Ok(false) => Err(Refusal::Fault(TypeFault::At(TypeFaultKind::Twice, offset))),
+        Err(_) => Err(Refusal::NoMemory),
     }
 }
 
@@ -110,7 +113,7 @@ fn one_label<'a>(
     of: Scalar,
     seen: &mut IndexSet<Option<i128>>,
     state: &mut State<'a>,
-) -> Result<(), TypeFault>
+) -> Result<(), Refusal<TypeFault>>
     ensures { Runs (λ _. seen.new.keys) result state.new (specs.one_label (label_of given.now) of
         seen.old.keys (state_of state.old)) }
 {
@@ -126,7 +129,7 @@ fn add_labels<'a>(
     of: Scalar,
     seen: &mut IndexSet<Option<i128>>,
     state: &mut State<'a>,
-) -> Result<(), TypeFault>
+) -> Result<(), Refusal<TypeFault>>
     ensures { Runs (λ _. seen.new.keys) result state.new (rule.labels (map label_of list.now) of []
         seen.old.keys (state_of state.old)) }
 {
@@ -151,7 +154,10 @@ fn since(all: &[Option<i128>], start: usize) -> &[Option<i128>]
 }
 
 /// More labels, after the others.
-fn push_labels(found: &mut Vec<Option<i128>>, more: &[Option<i128>]) -> Result<(), TypeFault>
+fn push_labels(
+    found: &mut Vec<Option<i128>>,
+    more: &[Option<i128>],
+) -> Result<(), Refusal<TypeFault>>
     ensures { Gives (λ _. found.new.items) result (Ok (found.old.items ++ more.now)) }
 {
     for label in more {
@@ -165,7 +171,7 @@ fn labels_since(
     alloc: Global,
     all: &[Option<i128>],
     start: usize,
-) -> Result<Vec<Option<i128>>, TypeFault>
+) -> Result<Vec<Option<i128>>, Refusal<TypeFault>>
     ensures { Gives (λ l. l.items) result (Ok (drop start all.now)) }
 {
     let mut found = Vec::new(alloc);
@@ -181,7 +187,7 @@ pub fn labels<'a>(
     of: Scalar,
     seen: &mut IndexSet<Option<i128>>,
     state: &mut State<'a>,
-) -> Result<Vec<Option<i128>>, TypeFault>
+) -> Result<Vec<Option<i128>>, Refusal<TypeFault>>
     ensures given { Runs (λ l. l.items) result state.new (rule.labels (map label_of list.now) of
         seen.old.keys [] (state_of state.old)) }
     ensures kept { IfOk result (λ l. seen.new.keys ≡ seen.old.keys ++ l.items) }

@@ -22,7 +22,7 @@ ghost use Rattle.c_types_statement.specs.Switches.{so_far};
 
 use crate::endings::ends;
 use crate::labels::{condition, first_offset, labels, switch_test};
-use attempt::attempt;
+use attempt::{Refusal, attempt};
 use c_syntax::expression::Expression;
 use c_syntax::simple::Simple;
 use c_syntax::statement::{ForStart, Group, Part, Statement};
@@ -66,7 +66,7 @@ fn switching<'b>(context: Context<'b>) -> Context<'b>
 }
 
 /// Nothing is done.
-fn skip<'a>(alloc: Global) -> Result<Box<Action<'a>>, TypeFault>
+fn skip<'a>(alloc: Global) -> Result<Box<Action<'a>>, Refusal<TypeFault>>
     ensures { Gives action_in result (Ok core.Skip) }
 {
     action_or_memory(Action::block(alloc, Vec::new(alloc)))
@@ -78,7 +78,7 @@ fn leave<'a>(
     jump: Jump,
     is_allowed: bool,
     offset: usize,
-) -> Result<Box<Action<'a>>, TypeFault>
+) -> Result<Box<Action<'a>>, Refusal<TypeFault>>
     ensures { Gives action_in result
         (if is_allowed then Ok (core.Leave jump) else names.fail Mismatch
         offset) }
@@ -86,7 +86,7 @@ fn leave<'a>(
     if is_allowed {
         action_or_memory(Action::leave(alloc, jump))
     } else {
-        Err(TypeFault::At(TypeFaultKind::Mismatch, offset))
+        Err(Refusal::Fault(TypeFault::At(TypeFaultKind::Mismatch, offset)))
     }
 }
 
@@ -97,7 +97,7 @@ fn plain<'a>(
     x: &Statement<'a>,
     context: Context<'_>,
     state: &mut State<'a>,
-) -> Result<Box<Action<'a>>, TypeFault>
+) -> Result<Box<Action<'a>>, Refusal<TypeFault>>
     ensures { Runs action_in result state.new (rule.statement (statement_of x.now) (context_of
         context.entry) (state_of state.old)) }
 {
@@ -110,10 +110,10 @@ fn plain<'a>(
         }
         Statement::Continue(offset) => leave(alloc, Jump::Continue, context.in_loop, *offset),
         Statement::Return(given, offset) => { returned_from(alloc, given, context, *offset, state) }
-        Statement::Block(_, _) | Statement::If(_, _, _) => Err(TypeFault::Memory),
-        Statement::IfElse(_, _, _, _) | Statement::While(_, _, _) => Err(TypeFault::Memory),
-        Statement::Do(_, _, _) | Statement::For(_, _, _, _, _) => Err(TypeFault::Memory),
-        Statement::Switch(_, _, _) => Err(TypeFault::Memory),
+        Statement::Block(_, _) | Statement::If(_, _, _) => Err(Refusal::NoMemory),
+        Statement::IfElse(_, _, _, _) | Statement::While(_, _, _) => Err(Refusal::NoMemory),
+        Statement::Do(_, _, _) | Statement::For(_, _, _, _, _) => Err(Refusal::NoMemory),
+        Statement::Switch(_, _, _) => Err(Refusal::NoMemory),
     }
 }
 
@@ -124,7 +124,7 @@ fn for_start<'a>(
     start: &ForStart<'a>,
     context: Context<'_>,
     state: &mut State<'a>,
-) -> Result<Box<Action<'a>>, TypeFault>
+) -> Result<Box<Action<'a>>, Refusal<TypeFault>>
     ensures { Runs action_in result state.new (rule.for_start (start_of start.now) (context_of
         context.entry) (state_of state.old)) }
 {
@@ -145,7 +145,7 @@ fn for_test<'a>(
     alloc: Global,
     test: &Option<Box<Expression<'a>>>,
     state: &mut State<'a>,
-) -> Result<Box<Core<'a>>, TypeFault>
+) -> Result<Box<Core<'a>>, Refusal<TypeFault>>
     ensures { Runs core_in result state.new (rule.for_test (option_map (λ t. expression_of t.value)
         test.now) (state_of state.old)) }
 {
@@ -162,7 +162,7 @@ fn for_step<'a>(
     step: &Option<Box<Simple<'a>>>,
     context: Context<'_>,
     state: &mut State<'a>,
-) -> Result<Box<Action<'a>>, TypeFault>
+) -> Result<Box<Action<'a>>, Refusal<TypeFault>>
     ensures { Runs action_in result state.new (rule.for_step (option_map (λ s. simple_of s.value)
         step.now) (context_of context.entry) (state_of state.old)) }
 {
@@ -178,7 +178,7 @@ fn boxed_group<'a>(
     alloc: Global,
     labels: Vec<Option<i128>>,
     body: Box<Action<'a>>,
-) -> Result<Box<CoreGroup<'a>>, TypeFault>
+) -> Result<Box<CoreGroup<'a>>, Refusal<TypeFault>>
     ensures { Gives (λ g. core_group_of g.value) result (Ok (
       labels.items,
       action_in
@@ -187,12 +187,15 @@ fn boxed_group<'a>(
 {
     match Box::new(alloc, CoreGroup { labels, body }) {
         Ok(group) => Ok(group),
-        Err(_) => Err(TypeFault::Memory),
+        Err(_) => Err(Refusal::NoMemory),
     }
 }
 
 /// One more group, after the others.
-fn push_group<'a>(done: &mut Vec<CoreGroup<'a>>, made: Box<CoreGroup<'a>>) -> Result<(), TypeFault>
+fn push_group<'a>(
+    done: &mut Vec<CoreGroup<'a>>,
+    made: Box<CoreGroup<'a>>,
+) -> Result<(), Refusal<TypeFault>>
     ensures { Gives (λ _. map core_group_of done.new.items) result (Ok (map core_group_of
         done.old.items ++ core_group_of made.entry.value ∷ [])) }
 {
@@ -210,14 +213,14 @@ fn is_last(list: &[Box<Group<'_>>], next: usize) -> bool
 
 /// Control may not go on after a group, unless it is the last.
 #[tactic(auto, unfolding(crate::specs::Groups::ended), using(crate::proofs::SwitchGroups::by_parts))]
-fn ended(given: &Group<'_>, is_last: bool) -> Result<(), TypeFault>
+fn ended(given: &Group<'_>, is_last: bool) -> Result<(), Refusal<TypeFault>>
     ensures { Gives nothing result (specs.ended (group_of given.now) is_last) }
 {
     if is_last || ends(given.parts.as_slice(), false) {
         Ok(())
     } else {
         let offset = first_offset(given.labels.as_slice());
-        Err(TypeFault::At(TypeFaultKind::Fallthrough, offset))
+        Err(Refusal::Fault(TypeFault::At(TypeFaultKind::Fallthrough, offset)))
     }
 }
 
@@ -228,7 +231,7 @@ fn body<'a>(
     x: &Statement<'a>,
     context: Context<'_>,
     state: &mut State<'a>,
-) -> Result<Box<Action<'a>>, TypeFault>
+) -> Result<Box<Action<'a>>, Refusal<TypeFault>>
     ensures { Runs action_in result state.new (names.block (rule.statement (statement_of x.now)
         (context_of context.entry)) (state_of state.old)) }
 {
@@ -247,7 +250,7 @@ fn block<'a>(
     offset: usize,
     context: Context<'_>,
     state: &mut State<'a>,
-) -> Result<Box<Action<'a>>, TypeFault>
+) -> Result<Box<Action<'a>>, Refusal<TypeFault>>
     ensures { Runs action_in result state.new (rule.statement (tree.Block (parts_of (map part_of
         list.now)) offset) (context_of context.entry) (state_of state.old)) }
 {
@@ -267,7 +270,7 @@ fn one_part<'a>(
     context: Context<'_>,
     done: &mut Vec<Action<'a>>,
     state: &mut State<'a>,
-) -> Result<(), TypeFault>
+) -> Result<(), Refusal<TypeFault>>
     ensures { Runs (λ _. actions_in done.new) result state.new (specs.one_part (part_of part.now)
         (context_of context.entry) (actions_in done.old) (state_of state.old)) }
 {
@@ -289,7 +292,7 @@ pub fn parts<'a>(
     context: Context<'_>,
     done: &mut Vec<Action<'a>>,
     state: &mut State<'a>,
-) -> Result<(), TypeFault>
+) -> Result<(), Refusal<TypeFault>>
     ensures { Runs (λ _. core.sequence (actions_in done.new)) result state.new (rule.parts (parts_of
         (map part_of list.now)) (context_of context.entry) (actions_in done.old) (state_of
         state.old)) }
@@ -313,7 +316,7 @@ fn if_only<'a>(
     offset: usize,
     context: Context<'_>,
     state: &mut State<'a>,
-) -> Result<Box<Action<'a>>, TypeFault>
+) -> Result<Box<Action<'a>>, Refusal<TypeFault>>
     ensures { Runs action_in result state.new (rule.statement (tree.If (expression_of test.now)
         (statement_of first.now) offset) (context_of context.entry) (state_of state.old)) }
 {
@@ -333,7 +336,7 @@ fn if_else<'a>(
     x: &Statement<'a>,
     context: Context<'_>,
     state: &mut State<'a>,
-) -> Result<Box<Action<'a>>, TypeFault>
+) -> Result<Box<Action<'a>>, Refusal<TypeFault>>
     ensures { Runs action_in result state.new (rule.statement (statement_of x.now) (context_of
         context.entry) (state_of state.old)) }
 {
@@ -347,14 +350,14 @@ fn if_else<'a>(
             action_or_memory(Action::if_else(alloc, c, action, other))
         }
         Statement::Block(_, _) | Statement::Empty(_) | Statement::Perform(_) => {
-            Err(TypeFault::Memory)
+            Err(Refusal::NoMemory)
         }
         Statement::Break(_) | Statement::Continue(_) | Statement::Return(_, _) => {
-            Err(TypeFault::Memory)
+            Err(Refusal::NoMemory)
         }
-        Statement::If(_, _, _) | Statement::While(_, _, _) => Err(TypeFault::Memory),
-        Statement::Do(_, _, _) | Statement::For(_, _, _, _, _) => Err(TypeFault::Memory),
-        Statement::Switch(_, _, _) => Err(TypeFault::Memory),
+        Statement::If(_, _, _) | Statement::While(_, _, _) => Err(Refusal::NoMemory),
+        Statement::Do(_, _, _) | Statement::For(_, _, _, _, _) => Err(Refusal::NoMemory),
+        Statement::Switch(_, _, _) => Err(Refusal::NoMemory),
     }
 }
 
@@ -368,7 +371,7 @@ fn while_loop<'a>(
     offset: usize,
     context: Context<'_>,
     state: &mut State<'a>,
-) -> Result<Box<Action<'a>>, TypeFault>
+) -> Result<Box<Action<'a>>, Refusal<TypeFault>>
     ensures { Runs action_in result state.new (rule.statement (tree.While (expression_of test.now)
         (statement_of inner.now) offset) (context_of context.entry) (state_of state.old)) }
 {
@@ -391,7 +394,7 @@ fn do_loop<'a>(
     offset: usize,
     context: Context<'_>,
     state: &mut State<'a>,
-) -> Result<Box<Action<'a>>, TypeFault>
+) -> Result<Box<Action<'a>>, Refusal<TypeFault>>
     ensures { Runs action_in result state.new (rule.statement (tree.Do (statement_of inner.now)
         (expression_of test.now) offset) (context_of context.entry) (state_of state.old)) }
 {
@@ -416,7 +419,7 @@ fn for_loop<'a>(
     offset: usize,
     context: Context<'_>,
     state: &mut State<'a>,
-) -> Result<Box<Action<'a>>, TypeFault>
+) -> Result<Box<Action<'a>>, Refusal<TypeFault>>
     ensures { Runs action_in result state.new (rule.statement (tree.For (start_of start.now)
         (option_map (λ t. expression_of t.value) test.now) (option_map (λ s. simple_of s.value)
         step.now) (statement_of inner.now) offset) (context_of context.entry) (state_of
@@ -450,7 +453,7 @@ fn switch<'a>(
     offset: usize,
     context: Context<'_>,
     state: &mut State<'a>,
-) -> Result<Box<Action<'a>>, TypeFault>
+) -> Result<Box<Action<'a>>, Refusal<TypeFault>>
     ensures { Runs action_in result state.new (rule.statement (tree.Switch (expression_of test.now)
         (groups_of (map group_of (unboxed list.now))) offset) (context_of context.entry) (state_of
         state.old)) }
@@ -483,7 +486,7 @@ fn group<'a>(
     of: Scalar,
     seen: &mut IndexSet<Option<i128>>,
     state: &mut State<'a>,
-) -> Result<Box<CoreGroup<'a>>, TypeFault>
+) -> Result<Box<CoreGroup<'a>>, Refusal<TypeFault>>
     ensures given { Runs (λ g. core_group_of g.value) result state.new (specs.group (group_of
         given.now) (context_of context.entry) of seen.old.keys (state_of state.old)) }
     ensures kept { IfOk result (λ g. seen.new.keys ≡ seen.old.keys ++ (core_group_of g.value).0) }
@@ -509,7 +512,7 @@ fn one_group<'a>(
     seen: &mut IndexSet<Option<i128>>,
     done: &mut Vec<CoreGroup<'a>>,
     state: &mut State<'a>,
-) -> Result<(), TypeFault>
+) -> Result<(), Refusal<TypeFault>>
     ensures { Runs (λ _. so_far seen.new.keys done.new) result state.new (specs.one_group (group_of
         given.now) is_last (context_of context.entry) of (so_far seen.old.keys done.old)
         (state_of state.old)) }
@@ -531,7 +534,7 @@ fn groups<'a>(
     seen: &mut IndexSet<Option<i128>>,
     done: &mut Vec<CoreGroup<'a>>,
     state: &mut State<'a>,
-) -> Result<(), TypeFault>
+) -> Result<(), Refusal<TypeFault>>
     ensures { Runs (λ _. rule.groups_in (map core_group_of done.new.items)) result state.new
         (rule.switch_groups (groups_of (map group_of (unboxed list.now))) (context_of context.entry)
         of seen.old.keys (map core_group_of done.old.items) (state_of state.old)) }
@@ -554,7 +557,7 @@ pub fn statement<'a>(
     x: &Statement<'a>,
     context: Context<'_>,
     state: &mut State<'a>,
-) -> Result<Box<Action<'a>>, TypeFault>
+) -> Result<Box<Action<'a>>, Refusal<TypeFault>>
     ensures { Runs action_in result state.new (rule.statement (statement_of x.now) (context_of
         context.entry) (state_of state.old)) }
 {

@@ -14,11 +14,13 @@ use Rattle.cert_text_spec.specs.Certificates.{Expected, AHeader, TheParts, Binar
 use Rattle.proof_tree_spec.specs.Frames.{Frame}
 use Rattle.cert_check_spec.specs.Verdict as spec
 use Rattle.cert_check_spec.specs.Verdict.{State, Between, Inside, NotProof, Limit, Passes, Fails, begun}
-use Rattle.cert_check_spec.specs.declared.RuleFault.TheVariants as fault
+use Rattle.cert_check_spec.specs.declared.RuleWord.TheVariants as fault
 use Rattle.cert_check.specs.declared.fault.Named.TheVariants as named
-use Rattle.cert_check.specs.declared.fault.Fault.{Fault}
-use Rattle.cert_check.specs.declared.fault.Fault.TheVariants.{Broken, Above, NoMemory}
+use Rattle.attempt.specs.declared.refusal.Refusal.{Refusal}
+use Rattle.attempt.specs.declared.refusal.Refusal.TheVariants.{Fault, NoMemory}
+use Rattle.cert_check.specs.declared.fault.NamedFault.{NamedFault}
 use Rattle.cert_check.specs.declared.fault.PartFault.{PartFault}
+use Rattle.cert_check.specs.declared.fault.NamedFault.TheVariants.{Broken, Above}
 use Rattle.cert_check.specs.declared.fault.PartFault.TheVariants as inner
 use Rattle.cert_check_frames.specs.declared.jobs.Job.{Job}
 use Rattle.cert_check_frames.specs.declared.listed.Listed.{Listed}
@@ -157,7 +159,7 @@ module _ (codes : List Listed) (old now : Walk) (name : List ℕ) (stack line in
       (Inside (begun s) f (spec.Prove f.frame ∷ []), passes, inr (subst (λ (js : List spec.Job). IsState codes listed now (Inside (begun s) f js)) jobs at))
 
   other_stack : (function_stack : is_named.function.stack ≡ stack → ⊥) → (listed : List spec.Listed) (ahead : List Line) → AreListed codes listed → (s : State) → IsState codes listed old s
-      → StepsTo codes listed ahead now s (Function name stack) line (Err (Broken (named.Listed index) fault.Stack))
+      → StepsTo codes listed ahead now s (Function name stack) line (Err (Fault (Broken (named.Listed index) fault.Stack)))
   other_stack apart listed ahead are s state =
       let found = listed_there codes listed are index is_named.function is_named.there in
       let f = found.0 in
@@ -166,7 +168,7 @@ module _ (codes : List Listed) (old now : Walk) (name : List ℕ) (stack line in
       let free_here = subst (λ (n : List ℕ). spec.IsFree listed (begun s) n f) same (free_at listed are s state f found.1 is) in
       (name, is_named, spec.stack s name stack f free_here (λ e. apart (sym is.stack_is ∙ sym e)))
 
-  begun_goes : (result : Result (Unit {0}) Fault) → BeginsAt is_named.function old now index stack result → Goes codes old now (Function name stack) line result
+  begun_goes : (result : Result (Unit {0}) (Refusal NamedFault)) → BeginsAt is_named.function old now index stack result → Goes codes old now (Function name stack) line result
   begun_goes (Ok done) begins =
       let parts = begins.3 in
       record {
@@ -179,39 +181,46 @@ module _ (codes : List Listed) (old now : Walk) (name : List ℕ) (stack line in
             (subst (λ (w : Walk). AreOf (BinaryInlines ∷ TheParts ∷ []) w.jobs.items) (sym begins.4) begins.1.follows);
         step = begins_step begins;
       }
-  begun_goes (Err (Broken (named.Listed k) fault.Stack)) begins = record {
+  begun_goes (Err (Fault (Broken (named.Listed k) fault.Stack))) begins = record {
     sound = tt;
     follows = tt;
     step = λ listed ahead are s state.
-        subst (λ (n : ℕ). StepsTo codes listed ahead now s (Function name stack) line (Err (Broken (named.Listed n) fault.Stack))) (sym begins.0) (other_stack begins.1 listed ahead are s state);
+        subst (λ (n : ℕ). StepsTo codes listed ahead now s (Function name stack) line (Err (Fault (Broken (named.Listed n) fault.Stack)))) (sym begins.0) (other_stack begins.1 listed ahead are s state);
   }
   begun_goes (Err NoMemory) begins = record { sound = tt; follows = tt; step = λ listed ahead are s state. tt }
-  begun_goes (Err (Broken (named.Listed k) fault.Later)) begins = absurd begins
-  begun_goes (Err (Broken (named.Listed k) fault.Stranger)) begins = absurd begins
-  begun_goes (Err (Broken (named.Listed k) fault.Sort)) begins = absurd begins
-  begun_goes (Err (Broken (named.Listed k) fault.Cyclic)) begins = absurd begins
-  begun_goes (Err (Broken (named.Listed k) fault.Logs)) begins = absurd begins
-  begun_goes (Err (Broken (named.Listed k) fault.Step)) begins = absurd begins
-  begun_goes (Err (Broken (named.Listed k) fault.Unclosed)) begins = absurd begins
-  begun_goes (Err (Broken (named.Listed k) fault.Missing)) begins = absurd begins
-  begun_goes (Err (Broken (named.Line n) rule)) begins = absurd begins
-  begun_goes (Err (Above q)) begins = absurd begins
+  begun_goes (Err (Fault (Broken (named.Listed k) fault.Later))) begins = absurd begins
+  begun_goes (Err (Fault (Broken (named.Listed k) fault.Inline))) begins = absurd begins
+  begun_goes (Err (Fault (Broken (named.Listed k) fault.Point))) begins = absurd begins
+  begun_goes (Err (Fault (Broken (named.Listed k) fault.Count))) begins = absurd begins
+  begun_goes (Err (Fault (Broken (named.Listed k) fault.Callee))) begins = absurd begins
+  begun_goes (Err (Fault (Broken (named.Listed k) fault.Passed))) begins = absurd begins
+  begun_goes (Err (Fault (Broken (named.Listed k) fault.Same))) begins = absurd begins
+  begun_goes (Err (Fault (Broken (named.Listed k) fault.Word))) begins = absurd begins
+  begun_goes (Err (Fault (Broken (named.Listed k) fault.Stranger))) begins = absurd begins
+  begun_goes (Err (Fault (Broken (named.Listed k) fault.Sort))) begins = absurd begins
+  begun_goes (Err (Fault (Broken (named.Listed k) fault.Cyclic))) begins = absurd begins
+  begun_goes (Err (Fault (Broken (named.Listed k) fault.Logs))) begins = absurd begins
+  begun_goes (Err (Fault (Broken (named.Listed k) fault.Step))) begins = absurd begins
+  begun_goes (Err (Fault (Broken (named.Listed k) fault.Unclosed))) begins = absurd begins
+  begun_goes (Err (Fault (Broken (named.Listed k) fault.Missing))) begins = absurd begins
+  begun_goes (Err (Fault (Broken (named.Line n) rule))) begins = absurd begins
+  begun_goes (Err (Fault (Above q))) begins = absurd begins
 
 -- for each function that is there, as for one
-pub begins_for : (codes : List Listed) (old now : Walk) (index stack : ℕ) (result : Result (Unit {0}) Fault) (function : Listed) → slice_get codes index ≡ Some function
+pub begins_for : (codes : List Listed) (old now : Walk) (index stack : ℕ) (result : Result (Unit {0}) (Refusal NamedFault)) (function : Listed) → slice_get codes index ≡ Some function
     → BeginsAt function old now index stack result → Begins codes old now index stack result
 begins_for codes old now index stack result function there begins = λ other also.
     subst (λ (g : Listed). BeginsAt g old now index stack result) (one_item codes index function other there also) begins
 
 -- the listed function of an index has the name, and no part yet
 pub begin_goes : (codes : List Listed) (old now : Walk) (name : List ℕ) (stack line index : ℕ) → IsSound codes old
-    → IsFreeAt codes old.parts.items name (Some index) → (result : Result (Unit {0}) Fault) → Begins codes old now index stack result → Goes codes old now (Function name stack) line result
+    → IsFreeAt codes old.parts.items name (Some index) → (result : Result (Unit {0}) (Refusal NamedFault)) → Begins codes old now index stack result → Goes codes old now (Function name stack) line result
 begin_goes codes old now name stack line index sound free result begins =
     begun_goes codes old now name stack line index sound free.0 free.1 result (begins free.0.function free.0.there)
 
 -- there is none
 pub stranger_goes : (codes : List Listed) (old now : Walk) (name : List ℕ) (stack line : ℕ) → IsFreeAt codes old.parts.items name None
-    → Goes codes old now (Function name stack) line (Err (Broken (named.Line line) fault.Stranger))
+    → Goes codes old now (Function name stack) line (Err (Fault (Broken (named.Line line) fault.Stranger)))
 stranger_goes codes old now name stack line none = record {
   sound = tt;
   follows = tt;
@@ -229,7 +238,7 @@ module _ (codes : List Listed) (walk : Walk) (at : IsWalk codes walk End) (index
   end_follows = λ e others expecting allowed. subst (Expecting walk) (sym (ends walk e others expecting allowed)) at_end
 
   missing_step : (k : ℕ) → IsMissingAt codes walk.parts.items (Some k) → (listed : List spec.Listed) (ahead : List Line) → AreListed codes listed → (s : State) → IsState codes listed walk s
-      → StepsTo codes listed ahead walk s End index (Err (Broken (named.Listed k) fault.Missing))
+      → StepsTo codes listed ahead walk s End index (Err (Fault (Broken (named.Listed k) fault.Missing)))
   missing_step k missing listed ahead are s state =
       let found = listed_there codes listed are k missing.0 missing.1 in (
         found.0.name,
@@ -237,7 +246,7 @@ module _ (codes : List Listed) (walk : Walk) (at : IsWalk codes walk End) (index
         spec.missing s found.0 (is_missing codes listed are walk.parts.items (begun s) (state_picked codes listed walk s state) k missing.0 found.0 missing.1 found.1 found.2 missing.2 missing.3),
       )
 
-  pub end_goes : (result : Result (Unit {0}) Fault) → Ends codes walk.parts.items result → Goes codes walk walk End index result
+  pub end_goes : (result : Result (Unit {0}) (Refusal NamedFault)) → Ends codes walk.parts.items result → Goes codes walk walk End index result
   end_goes (Ok done) all = record {
     sound = at.sound;
     follows = end_follows;
@@ -247,18 +256,25 @@ module _ (codes : List Listed) (walk : Walk) (at : IsWalk codes walk End) (index
       inl refl,
     );
   }
-  end_goes (Err (Broken (named.Listed k) fault.Missing)) missing = record { sound = tt; follows = tt; step = missing_step k missing }
+  end_goes (Err (Fault (Broken (named.Listed k) fault.Missing))) missing = record { sound = tt; follows = tt; step = missing_step k missing }
   end_goes (Err NoMemory) missing = absurd missing
-  end_goes (Err (Broken (named.Listed k) fault.Later)) missing = absurd missing
-  end_goes (Err (Broken (named.Listed k) fault.Stranger)) missing = absurd missing
-  end_goes (Err (Broken (named.Listed k) fault.Stack)) missing = absurd missing
-  end_goes (Err (Broken (named.Listed k) fault.Sort)) missing = absurd missing
-  end_goes (Err (Broken (named.Listed k) fault.Cyclic)) missing = absurd missing
-  end_goes (Err (Broken (named.Listed k) fault.Logs)) missing = absurd missing
-  end_goes (Err (Broken (named.Listed k) fault.Step)) missing = absurd missing
-  end_goes (Err (Broken (named.Listed k) fault.Unclosed)) missing = absurd missing
-  end_goes (Err (Broken (named.Line n) rule)) missing = absurd missing
-  end_goes (Err (Above q)) missing = absurd missing
+  end_goes (Err (Fault (Broken (named.Listed k) fault.Later))) missing = absurd missing
+  end_goes (Err (Fault (Broken (named.Listed k) fault.Inline))) missing = absurd missing
+  end_goes (Err (Fault (Broken (named.Listed k) fault.Point))) missing = absurd missing
+  end_goes (Err (Fault (Broken (named.Listed k) fault.Count))) missing = absurd missing
+  end_goes (Err (Fault (Broken (named.Listed k) fault.Callee))) missing = absurd missing
+  end_goes (Err (Fault (Broken (named.Listed k) fault.Passed))) missing = absurd missing
+  end_goes (Err (Fault (Broken (named.Listed k) fault.Same))) missing = absurd missing
+  end_goes (Err (Fault (Broken (named.Listed k) fault.Word))) missing = absurd missing
+  end_goes (Err (Fault (Broken (named.Listed k) fault.Stranger))) missing = absurd missing
+  end_goes (Err (Fault (Broken (named.Listed k) fault.Stack))) missing = absurd missing
+  end_goes (Err (Fault (Broken (named.Listed k) fault.Sort))) missing = absurd missing
+  end_goes (Err (Fault (Broken (named.Listed k) fault.Cyclic))) missing = absurd missing
+  end_goes (Err (Fault (Broken (named.Listed k) fault.Logs))) missing = absurd missing
+  end_goes (Err (Fault (Broken (named.Listed k) fault.Step))) missing = absurd missing
+  end_goes (Err (Fault (Broken (named.Listed k) fault.Unclosed))) missing = absurd missing
+  end_goes (Err (Fault (Broken (named.Line n) rule))) missing = absurd missing
+  end_goes (Err (Fault (Above q))) missing = absurd missing
 
 -- ---- inside a part
 
@@ -353,7 +369,7 @@ module _ (codes : List Listed) (old now : Walk) (line : CodeLine) (index part : 
       by _ _ (at_first empty) allowed = absurd (no_item old.parts.items before part empty last)
       by e others (in_part _ some are) allowed = in_part (after e (line_of line) ++ others) (some_now same) (after_line e others are allowed)
 
-  steps_inside : (result : Result (Unit {0}) Fault) → now.parts ≡ old.parts → (listed : List spec.Listed) (ahead : List Line) (parts : List spec.Listed) (f : spec.Listed) (first : List ℕ) → IsListed function f
+  steps_inside : (result : Result (Unit {0}) (Refusal NamedFault)) → now.parts ≡ old.parts → (listed : List spec.Listed) (ahead : List Line) (parts : List spec.Listed) (f : spec.Listed) (first : List ℕ) → IsListed function f
       → old.parts.items ≡ first ++ part ∷ [] → slice_get listed part ≡ Some f → ArePicked listed first parts
       → ComesAt listed ahead parts f (jobs_of old.bank (frame_at function) old.jobs.items) (jobs_of now.bank (frame_at function) now.jobs.items) (line_of line) part result
       → StepsTo codes listed ahead now (Inside parts f (jobs_of old.bank (frame_at function) old.jobs.items)) (line_of line) index result
@@ -361,14 +377,14 @@ module _ (codes : List Listed) (old now : Walk) (line : CodeLine) (index part : 
       let at : IsState codes listed now (Inside parts f (jobs_of now.bank (frame_at function) now.jobs.items)) =
       inside first part function f parts (ap (λ (list : Vec ℕ Global). list.items) same ∙ split) function_there there picked in
       (Inside parts f (jobs_of now.bank (frame_at function) now.jobs.items), comes, inr at)
-  steps_inside (Err (Broken (named.Listed k) rule)) same listed ahead parts f first is split there picked comes =
+  steps_inside (Err (Fault (Broken (named.Listed k) rule))) same listed ahead parts f first is split there picked comes =
       let here : IsNamed codes part f.name = record { function = function; there = function_there; named = sym is.named } in
       (f.name, subst (λ (n : ℕ). IsNamed codes n f.name) (sym comes.0) here, comes.1)
-  steps_inside (Err (Broken (named.Line n) rule)) same listed ahead parts f first is split there picked comes = absurd comes
-  steps_inside (Err (Above q)) same listed ahead parts f first is split there picked comes = comes
+  steps_inside (Err (Fault (Broken (named.Line n) rule))) same listed ahead parts f first is split there picked comes = absurd comes
+  steps_inside (Err (Fault (Above q))) same listed ahead parts f first is split there picked comes = comes
   steps_inside (Err NoMemory) same listed ahead parts f first is split there picked comes = tt
 
-  pub inside_goes : (result : Result (Unit {0}) Fault) → IsInPart function old now (line_of line) part result → Goes codes old now (line_of line) index result
+  pub inside_goes : (result : Result (Unit {0}) (Refusal NamedFault)) → IsInPart function old now (line_of line) part result → Goes codes old now (line_of line) index result
   inside_goes result goes = record {
     sound = on_ok_weaker result (kept_inside goes.parts) goes.kept;
     follows = on_ok_weaker result (follows_inside goes.parts) goes.follows;
@@ -416,14 +432,14 @@ no_other_line code.End jobs next is checked no_leaf no_case plain = absurd (cc)
 
 -- ---- the outcome of a line inside a part
 
-comes_named : (listed : List spec.Listed) (ahead : List Line) (parts : List spec.Listed) (f : spec.Listed) (before after : List spec.Job) (line : Line) (index : ℕ) (broken : PartFault)
+comes_named : (listed : List spec.Listed) (ahead : List Line) (parts : List spec.Listed) (f : spec.Listed) (before after : List spec.Job) (line : Line) (index : ℕ) (broken : Refusal PartFault)
     → Comes listed ahead parts f before after line (Err broken) → ComesAt listed ahead parts f before after line index (Err (named_fault index broken))
-comes_named listed ahead parts f before after line index (inner.Broken rule) comes = (refl, comes)
-comes_named listed ahead parts f before after line index (inner.Above q) comes = comes
-comes_named listed ahead parts f before after line index inner.NoMemory comes = tt
+comes_named listed ahead parts f before after line index (Fault (inner.Broken rule)) comes = (refl, comes)
+comes_named listed ahead parts f before after line index (Fault (inner.Above q)) comes = comes
+comes_named listed ahead parts f before after line index NoMemory comes = tt
 
 module _ (codes : List Listed) (old now : Walk) (line : Line) (index : ℕ) (function : Listed) (there : slice_get codes index ≡ Some function) (same : now.parts ≡ old.parts) where
-  for_each : (result : Result (Unit {0}) Fault) → IsInPart function old now line index result → GoesInside codes old now index line result
+  for_each : (result : Result (Unit {0}) (Refusal NamedFault)) → IsInPart function old now line index result → GoesInside codes old now index line result
   for_each result goes = λ other also.
       subst (λ (g : Listed). IsInPart g old now line index result) (one_item codes index function other there also) goes
 
@@ -436,9 +452,9 @@ module _ (codes : List Listed) (old now : Walk) (line : Line) (index : ℕ) (fun
     parts = same;
   })
 
-  pub fails_inside : (broken : PartFault) (answer : Fault) → answer ≡ named_fault index broken
+  pub fails_inside : (broken : Refusal PartFault) (answer : Refusal NamedFault) → answer ≡ named_fault index broken
       → IsStep function old.bank now.bank old.jobs.items now.jobs.items line (Err broken) → GoesInside codes old now index line (Err answer)
-  fails_inside broken answer is step = subst (λ (x : Fault). GoesInside codes old now index line (Err x)) (sym is)
+  fails_inside broken answer is step = subst (λ (x : Refusal NamedFault). GoesInside codes old now index line (Err x)) (sym is)
       (for_each (Err (named_fault index broken)) (record {
         step = λ listed ahead parts f listed_so.
             comes_named listed ahead parts f (jobs_of old.bank (frame_at function) old.jobs.items) (jobs_of now.bank (frame_at function) now.jobs.items) line index broken

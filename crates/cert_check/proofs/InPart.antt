@@ -14,21 +14,24 @@ use Rattle.sim_rules_spec.specs.Rules.{Opening, AreOfLeaf}
 use Rattle.sim_rules_spec.specs.Sides.{binary_way, source_way}
 use Rattle.visit_walk_spec.proofs.Order.{acyclic}
 use Rattle.sim_rules.specs.Outcome.{AreObligations, IsRuleFault, HasFewVisits}
-use Rattle.sim_rules.specs.declared.fault.RuleFault.{RuleFault as RuleError}
+use Rattle.attempt.specs.declared.refusal.Refusal.{Refusal}
+use Rattle.attempt.specs.declared.refusal.Refusal.TheVariants.{Fault, NoMemory}
+use Rattle.sim_rules_spec.proofs.OnSides.{cyclic_on, large_on}
+use Rattle.sim_rules.specs.declared.fault.RuleFault.{RuleFault}
+use Rattle.cert_check.specs.declared.fault.PartFault.{PartFault}
+use Rattle.cert_check.specs.declared.fault.PartFault.TheVariants.{Broken, Above}
 use Rattle.sim_rules.specs.declared.fault.RuleFault.TheVariants as obligation
+use Rattle.cert_check_terms.specs.declared.fault.TermFault.TheVariants as term_fault
 use Rattle.cert_text_spec.specs.declared.Symbol.{Symbol}
 use Rattle.cert_text_spec.specs.Lines.{Line, Header, Function, InlineBinary, InlineSource, Leaf, Case, RestrictBinary, RestrictSource, Split, Call, Relation, Log, LogStep, End}
 use Rattle.tv_limits.specs.declared.TheConstants.{MAX_VISITS}
-use Rattle.cert_check_spec.specs.declared.RuleFault.TheVariants as fault
-use Rattle.cert_check_spec.specs.declared.Quantity.TheVariants as quantity
+use Rattle.cert_check_spec.specs.declared.RuleWord.TheVariants as fault
+use Rattle.tv_limits.specs.declared.Quantity.TheVariants as quantity
 use Rattle.cert_check_spec.specs.Terms.{IsTermOf}
 use Rattle.cert_check_spec.specs.Verdict as spec
 use Rattle.cert_check_spec.specs.Verdict.{Inside, Passes, Fails, NotProof, Limit, IsTest, with_test}
-use Rattle.cert_check_terms.specs.declared.fault.TermFault.TheVariants as term_fault
 use Rattle.cert_check_terms.specs.Outcomes.{IsOfLine, IsRead}
 use Rattle.cert_check_terms.specs.Variables.{AreApart}
-use Rattle.cert_check.specs.declared.fault.PartFault.{PartFault}
-use Rattle.cert_check.specs.declared.fault.PartFault.TheVariants.{Broken, Above, NoMemory}
 use Rattle.cert_check_frames.specs.declared.jobs.Branch.{Branch}
 use Rattle.cert_check_frames.specs.declared.jobs.Job.{Job}
 use Rattle.cert_check_frames.specs.declared.jobs.Job.TheVariants.{Prove}
@@ -113,19 +116,26 @@ module _ (listed : List spec.Listed) (ahead : List Line) (parts : List spec.List
       (λ test is_test. none test (record { spelled = is_test.spelled; line = is_test.line })))
 
   -- what a Case fails for, where its test isn't read
-  pub test_fails : (old new : List Term) (before below after : List Job) (premises : Vec Branch Global) (symbols : List Symbol) (broken : PartFault) → before ≡ below ++ Prove premises ∷ []
+  pub test_fails : (old new : List Term) (before below after : List Job) (premises : Vec Branch Global) (symbols : List Symbol) (broken : Refusal PartFault) → before ≡ below ++ Prove premises ∷ []
       → IsTestAt f symbols new (Err broken) → Comes listed ahead parts f (jobs_of old (frame_at code) before) (jobs_of new (frame_at code) after) (Case symbols) (Err broken)
-  test_fails old new before below after premises symbols (Broken fault.Sort) first none = case_fails old before below premises symbols first none
+  test_fails old new before below after premises symbols (Fault (Broken fault.Sort)) first none = case_fails old before below premises symbols first none
   test_fails old new before below after premises symbols NoMemory first none = tt
-  test_fails old new before below after premises symbols (Broken fault.Later) first none = absurd none
-  test_fails old new before below after premises symbols (Broken fault.Stranger) first none = absurd none
-  test_fails old new before below after premises symbols (Broken fault.Stack) first none = absurd none
-  test_fails old new before below after premises symbols (Broken fault.Cyclic) first none = absurd none
-  test_fails old new before below after premises symbols (Broken fault.Logs) first none = absurd none
-  test_fails old new before below after premises symbols (Broken fault.Step) first none = absurd none
-  test_fails old new before below after premises symbols (Broken fault.Unclosed) first none = absurd none
-  test_fails old new before below after premises symbols (Broken fault.Missing) first none = absurd none
-  test_fails old new before below after premises symbols (Above q) first none = absurd none
+  test_fails old new before below after premises symbols (Fault (Broken fault.Later)) first none = absurd none
+  test_fails old new before below after premises symbols (Fault (Broken fault.Inline)) first none = absurd none
+  test_fails old new before below after premises symbols (Fault (Broken fault.Point)) first none = absurd none
+  test_fails old new before below after premises symbols (Fault (Broken fault.Count)) first none = absurd none
+  test_fails old new before below after premises symbols (Fault (Broken fault.Callee)) first none = absurd none
+  test_fails old new before below after premises symbols (Fault (Broken fault.Passed)) first none = absurd none
+  test_fails old new before below after premises symbols (Fault (Broken fault.Same)) first none = absurd none
+  test_fails old new before below after premises symbols (Fault (Broken fault.Word)) first none = absurd none
+  test_fails old new before below after premises symbols (Fault (Broken fault.Stranger)) first none = absurd none
+  test_fails old new before below after premises symbols (Fault (Broken fault.Stack)) first none = absurd none
+  test_fails old new before below after premises symbols (Fault (Broken fault.Cyclic)) first none = absurd none
+  test_fails old new before below after premises symbols (Fault (Broken fault.Logs)) first none = absurd none
+  test_fails old new before below after premises symbols (Fault (Broken fault.Step)) first none = absurd none
+  test_fails old new before below after premises symbols (Fault (Broken fault.Unclosed)) first none = absurd none
+  test_fails old new before below after premises symbols (Fault (Broken fault.Missing)) first none = absurd none
+  test_fails old new before below after premises symbols (Fault (Above q)) first none = absurd none
 
   -- ---- why a Leaf fails
 
@@ -136,27 +146,42 @@ module _ (listed : List spec.Listed) (ahead : List Line) (parts : List spec.List
     | inr of_source ↦ large.1 node of_source.1
   ]
 
-  pub leaf_fails : (old new : List Term) (before below after : List Job) (premises : Vec Branch Global) (logs : ℕ) (broken : PartFault) → before ≡ below ++ Prove premises ∷ []
+  pub leaf_fails : (old new : List Term) (before below after : List Job) (premises : Vec Branch Global) (logs : ℕ) (broken : Refusal PartFault) → before ≡ below ++ Prove premises ∷ []
       → AreGoals f new (premises_at old premises.items) (Err broken)
       → Comes listed ahead parts f (jobs_of old (frame_at code) before) (jobs_of new (frame_at code) after) (Leaf logs) (Err broken)
-  leaf_fails old new before below after premises logs (Broken fault.Cyclic) first has =
+  leaf_fails old new before below after premises logs (Fault (Broken fault.Cyclic)) first has =
       at_proof old before below premises (Leaf logs) (NotProof f.name fault.Cyclic) first
       (spec.cyclic parts f (frame_with f.frame (premises_at old premises.items)) (jobs_of old (frame_at code) below) logs has.0 has.1)
-  leaf_fails old new before below after premises logs (Above quantity.Visits) first has =
+  leaf_fails old new before below after premises logs (Fault (Above quantity.Visits)) first has =
       let frame = frame_with f.frame (premises_at old premises.items) in
       at_proof old before below premises (Leaf logs) (Limit quantity.Visits) first
       (spec.visits parts f frame (jobs_of old (frame_at code) below) logs has.0 (never_cyclic frame has.0 has.1) has.1)
   leaf_fails old new before below after premises logs NoMemory first has = tt
-  leaf_fails old new before below after premises logs (Broken fault.Later) first has = absurd has
-  leaf_fails old new before below after premises logs (Broken fault.Stranger) first has = absurd has
-  leaf_fails old new before below after premises logs (Broken fault.Stack) first has = absurd has
-  leaf_fails old new before below after premises logs (Broken fault.Sort) first has = absurd has
-  leaf_fails old new before below after premises logs (Broken fault.Logs) first has = absurd has
-  leaf_fails old new before below after premises logs (Broken fault.Step) first has = absurd has
-  leaf_fails old new before below after premises logs (Broken fault.Unclosed) first has = absurd has
-  leaf_fails old new before below after premises logs (Broken fault.Missing) first has = absurd has
-  leaf_fails old new before below after premises logs (Above quantity.Terms) first has = absurd has
-  leaf_fails old new before below after premises logs (Above quantity.Variables) first has = absurd has
+  leaf_fails old new before below after premises logs (Fault (Broken fault.Later)) first has = absurd has
+  leaf_fails old new before below after premises logs (Fault (Broken fault.Inline)) first has = absurd has
+  leaf_fails old new before below after premises logs (Fault (Broken fault.Point)) first has = absurd has
+  leaf_fails old new before below after premises logs (Fault (Broken fault.Count)) first has = absurd has
+  leaf_fails old new before below after premises logs (Fault (Broken fault.Callee)) first has = absurd has
+  leaf_fails old new before below after premises logs (Fault (Broken fault.Passed)) first has = absurd has
+  leaf_fails old new before below after premises logs (Fault (Broken fault.Same)) first has = absurd has
+  leaf_fails old new before below after premises logs (Fault (Broken fault.Word)) first has = absurd has
+  leaf_fails old new before below after premises logs (Fault (Broken fault.Stranger)) first has = absurd has
+  leaf_fails old new before below after premises logs (Fault (Broken fault.Stack)) first has = absurd has
+  leaf_fails old new before below after premises logs (Fault (Broken fault.Sort)) first has = absurd has
+  leaf_fails old new before below after premises logs (Fault (Broken fault.Logs)) first has = absurd has
+  leaf_fails old new before below after premises logs (Fault (Broken fault.Step)) first has = absurd has
+  leaf_fails old new before below after premises logs (Fault (Broken fault.Unclosed)) first has = absurd has
+  leaf_fails old new before below after premises logs (Fault (Broken fault.Missing)) first has = absurd has
+  leaf_fails old new before below after premises logs (Fault (Above quantity.Terms)) first has = absurd has
+  leaf_fails old new before below after premises logs (Fault (Above quantity.Variables)) first has = absurd has
+  leaf_fails old new before below after premises logs (Fault (Above quantity.Elf)) first has = absurd has
+  leaf_fails old new before below after premises logs (Fault (Above quantity.C)) first has = absurd has
+  leaf_fails old new before below after premises logs (Fault (Above quantity.Functions)) first has = absurd has
+  leaf_fails old new before below after premises logs (Fault (Above quantity.Nodes)) first has = absurd has
+  leaf_fails old new before below after premises logs (Fault (Above quantity.Certificate)) first has = absurd has
+  leaf_fails old new before below after premises logs (Fault (Above quantity.Call)) first has = absurd has
+  leaf_fails old new before below after premises logs (Fault (Above quantity.Steps)) first has = absurd has
+  leaf_fails old new before below after premises logs (Fault (Above quantity.Known)) first has = absurd has
 
   -- another number of logs
   pub logs_fail : (old new : List Term) (before below : List Job) (premises : Vec Branch Global) (logs : ℕ) (goals : Vec ℕ Global) → before ≡ below ++ Prove premises ∷ []
@@ -204,19 +229,19 @@ test_read code f is symbols trees id of_line =
 
 -- there is none
 pub no_test : (code : Listed) (f : spec.Listed) → IsListed code f → (symbols : List Symbol) (trees : List Term)
-    → IsRead (setting_of code.setting.now) code.path.now symbols trees (Err term_fault.Sort) → IsTestAt f symbols trees (Err (Broken fault.Sort))
+    → IsRead (setting_of code.setting.now) code.path.now symbols trees (Err (Fault term_fault.Sort)) → IsTestAt f symbols trees (Err (Fault (Broken fault.Sort)))
 no_test code f is symbols trees none = λ test is_test.
     let apart = subst (λ (frame : Frame). AreApart frame.setting.bodies) is.frame_is is.apart in
     let here = subst (λ (frame : Frame). IsTest frame symbols test) is.frame_is is_test in
     none apart test here.spelled here.line
 
 -- why there are no obligations, as the fault of a line
-pub goals_fail : (c : Convention) (o : Opening) (frame : Frame) (trees : List Term) (error : RuleError) → IsRuleFault o frame MAX_VISITS rule.Leaf error
+pub goals_fail : (c : Convention) (o : Opening) (frame : Frame) (trees : List Term) (error : Refusal RuleFault) → IsRuleFault o frame MAX_VISITS rule.Leaf error
     → AreGoalsOf c o frame trees (Err (goal_fault_of error))
-goals_fail c o frame trees (obligation.Sort index) is = absurd is
-goals_fail c o frame trees (obligation.Cyclic node) is = (node, is)
-goals_fail c o frame trees (obligation.Large count) is = (count, is)
-goals_fail c o frame trees obligation.NoMemory is = tt
+goals_fail c o frame trees (Fault (obligation.Sort index)) is = absurd is
+goals_fail c o frame trees (Fault (obligation.Cyclic side node)) is = (node, cyclic_on o frame rule.Leaf side node is)
+goals_fail c o frame trees (Fault (obligation.Large side count)) is = (count, large_on o frame MAX_VISITS rule.Leaf side count is)
+goals_fail c o frame trees NoMemory is = tt
 
 -- both walks of a Leaf with obligations end
 leaf_acyclic : (c : Convention) (o : Opening) (frame : Frame) (terms : List Term) → AreOfLeaf c o frame terms → (node : ℕ) → rule.IsCyclicRule o frame rule.Leaf node → ⊥
@@ -230,6 +255,6 @@ pub goals_made : (c : Convention) (o : Opening) (frame : Frame) (trees : List Te
 goals_made c o frame trees goals are few = record { acyclic = leaf_acyclic c o frame are.terms are.are; small = few; are = are }
 
 -- the premises as they are lent
-pub goals_for : (f : spec.Listed) (trees old : List Term) (lent premises : List Branch) (result : Result (Vec ℕ Global) PartFault) → lent ≡ premises
+pub goals_for : (f : spec.Listed) (trees old : List Term) (lent premises : List Branch) (result : Result (Vec ℕ Global) (Refusal PartFault)) → lent ≡ premises
     → AreGoals f trees (premises_at old lent) result → AreGoals f trees (premises_at old premises) result
 goals_for f trees old lent premises result same are = subst (λ (list : List Branch). AreGoals f trees (premises_at old list) result) same are

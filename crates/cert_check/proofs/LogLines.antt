@@ -10,13 +10,16 @@ use Rattle.clause_check_spec.specs.Log.{Step}
 use Rattle.discharge_spec.specs.declared.GoalQuantity.TheVariants as above
 use Rattle.discharge_spec.specs.Closing.{Closes, closing}
 use Rattle.discharge.specs.Answers.{Answers}
-use Rattle.discharge.specs.declared.error.CloseError.{CloseError}
-use Rattle.discharge.specs.declared.error.CloseError.TheVariants as close
+use Rattle.attempt.specs.declared.refusal.Refusal.{Refusal}
+use Rattle.attempt.specs.declared.refusal.Refusal.TheVariants.{Fault, NoMemory}
+use Rattle.discharge.specs.declared.error.CloseFault.{CloseFault}
+use Rattle.cert_check.specs.declared.fault.NamedFault.{NamedFault}
+use Rattle.discharge.specs.declared.error.CloseFault.TheVariants as close
 use Rattle.cert_text_parse.specs.declared.lines.Line.TheVariants as code
 use Rattle.cert_text_spec.specs.Lines.{Line, Log}
 use Rattle.cert_text_spec.specs.Certificates.{Expected, ALog}
-use Rattle.cert_check_spec.specs.declared.RuleFault.TheVariants as fault
-use Rattle.cert_check_spec.specs.declared.Quantity.TheVariants as quantity
+use Rattle.cert_check_spec.specs.declared.RuleWord.TheVariants as fault
+use Rattle.tv_limits.specs.declared.Quantity.TheVariants as quantity
 use Rattle.cert_check_spec.specs.Verdict as spec
 use Rattle.cert_check_spec.specs.Verdict.{State, Inside, AreSteps, Passes, Fails, NotProof, Limit}
 use Rattle.cert_check_frames.specs.declared.jobs.Job.{Job}
@@ -26,7 +29,6 @@ use Rattle.cert_check_frames.specs.Listed.{IsListed, AreListed, frame_at}
 use Rattle.cert_check_frames.specs.Jobs.{AreInside}
 use Rattle.cert_check_frames.specs.Parts.{IsNamed}
 use Rattle.cert_check_frames.proofs.Indexed.{one_item}
-use Rattle.cert_check.specs.declared.fault.Fault.{Fault}
 use Rattle.cert_check.specs.declared.walk.Walk.{Walk}
 use Rattle.cert_check.specs.Jobs.{jobs_of}
 use Rattle.cert_check.specs.Logs.{line_fault, number_in}
@@ -57,27 +59,27 @@ module _ (listed : List spec.Listed) (ahead : List Line) (parts : List spec.List
       → Fails listed ahead (Inside parts f (jobs_of old (frame_at function) before)) (Log count) after broken
   fails_there after broken fails = subst (λ (jobs : List spec.Job). Fails listed ahead (Inside parts f jobs) (Log count) after broken) at_goal fails
 
-  log_fails : (codes : List Listed) (part index : ℕ) → IsNamed codes part f.name → (error : CloseError) → Answers {A = Unit {0}} (closing f.runs (tree_at old goal) steps) (Err error)
+  log_fails : (codes : List Listed) (part index : ℕ) → IsNamed codes part f.name → (error : Refusal CloseFault) → Answers {A = Unit {0}} (closing f.runs (tree_at old goal) steps) (Err error)
       → LogFails codes listed ahead (Inside parts f (jobs_of old (frame_at function) before)) count index (line_fault part index error).0 (line_fault part index error).1
-  log_fails codes part index is_named (close.Large above.Terms n) answers =
+  log_fails codes part index is_named (Fault (close.Large above.Terms n)) answers =
       (refl, fails_there 0 (Limit quantity.Terms) (spec.terms parts f (tree_at old goal) (jobs_of old (frame_at function) below) count steps are answers))
-  log_fails codes part index is_named (close.Large above.Variables n) answers =
+  log_fails codes part index is_named (Fault (close.Large above.Variables n)) answers =
       (refl, fails_there 0 (Limit quantity.Variables) (spec.variables parts f (tree_at old goal) (jobs_of old (frame_at function) below) count steps are answers))
-  log_fails codes part index is_named (close.Step number) answers = (
+  log_fails codes part index is_named (Fault (close.Step number)) answers = (
     number,
     refl,
     f.name,
     is_named,
     fails_there number (NotProof f.name fault.Step) (spec.refused parts f (tree_at old goal) (jobs_of old (frame_at function) below) count steps number are answers),
   )
-  log_fails codes part index is_named close.Unclosed answers = (
+  log_fails codes part index is_named (Fault close.Unclosed) answers = (
     0,
     omega arith,
     f.name,
     is_named,
     fails_there 0 (NotProof f.name fault.Unclosed) (spec.unclosed parts f (tree_at old goal) (jobs_of old (frame_at function) below) count steps are answers),
   )
-  log_fails codes part index is_named close.NoMemory answers = tt
+  log_fails codes part index is_named NoMemory answers = tt
 
 -- ---- the line
 
@@ -139,7 +141,7 @@ module _ (codes : List Listed) (old now : Walk) (count : ℕ) (steps : List Step
     step = closed_step closes;
   }
 
-  fault_step : (error : CloseError) → ClosesFirst function old now steps (Err error) → (listed : List spec.Listed) (ahead : List Line) → AreSteps ahead count steps → AreListed codes listed → (s : State)
+  fault_step : (error : Refusal CloseFault) → ClosesFirst function old now steps (Err error) → (listed : List spec.Listed) (ahead : List Line) → AreSteps ahead count steps → AreListed codes listed → (s : State)
       → IsState codes listed old s → LogFails codes listed ahead s count index (line_fault part index error).0 (line_fault part index error).1
   fault_step error closes listed ahead are all s state =
       let x = last_function listed all s state in
@@ -148,17 +150,17 @@ module _ (codes : List Listed) (old now : Walk) (count : ℕ) (steps : List Step
       (log_fails listed ahead x.parts function x.f old.bank now.bank old.jobs.items now.jobs.items closes.goal count steps are closes.first codes part index is_named error
       (subst (λ (runs : List Run). Answers {A = Unit {0}} (closing runs (tree_at old.bank closes.goal) steps) (Err error)) (sym x.is.runs_are) closes.answers))
 
-  fault_within : (error : CloseError) → number_in error ≤ count → (line_fault part index error).0 ≤ index + count
-  fault_within (close.Large above.Terms n) within = omega arith
-  fault_within (close.Large above.Variables n) within = omega arith
-  fault_within (close.Step number) within = omega (arith, within)
-  fault_within close.Unclosed within = omega arith
-  fault_within close.NoMemory within = omega arith
+  fault_within : (error : Refusal CloseFault) → number_in error ≤ count → (line_fault part index error).0 ≤ index + count
+  fault_within (Fault (close.Large above.Terms n)) within = omega arith
+  fault_within (Fault (close.Large above.Variables n)) within = omega arith
+  fault_within (Fault (close.Step number)) within = omega (arith, within)
+  fault_within (Fault close.Unclosed) within = omega arith
+  fault_within NoMemory within = omega arith
 
-  pub log_refused : (error : CloseError) (answer : ℕ × Fault) → length steps ≡ count → answer ≡ line_fault part index error → ClosesFirst function old now steps (Err error)
+  pub log_refused : (error : Refusal CloseFault) (answer : ℕ × Refusal NamedFault) → length steps ≡ count → answer ≡ line_fault part index error → ClosesFirst function old now steps (Err error)
       → GoesLog codes old now count steps index (Err answer)
   log_refused error answer counted is closes =
-      subst (λ (x : ℕ × Fault). GoesLog codes old now count steps index (Err x)) (sym is)
+      subst (λ (x : ℕ × Refusal NamedFault). GoesLog codes old now count steps index (Err x)) (sym is)
       (record {
         sound = tt;
         follows = tt;

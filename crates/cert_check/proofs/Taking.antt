@@ -10,8 +10,11 @@ use Rattle.clause_check_spec.specs.Clause.{Clause, Cnf, is_of, negation}
 use Rattle.clause_check_spec.specs.Step.{Outcome, Follows, Refused, outcome, propagate, are_apart}
 use Rattle.clause_check_spec.specs.Log.{Step}
 use Rattle.clause_check.specs.Logged.{Logged, clauses_of}
-use Rattle.clause_check.specs.declared.log.StepError.{StepError}
-use Rattle.clause_check.specs.declared.log.StepError.TheVariants.{Fault, NoMemory}
+use Rattle.attempt.specs.declared.refusal.Refusal.{Refusal}
+use Rattle.attempt.specs.declared.refusal.Refusal.TheVariants.{Fault, NoMemory}
+use Rattle.clause_check.specs.declared.hints.StepFault.{StepFault}
+use Rattle.discharge.specs.declared.error.CloseFault.{CloseFault}
+use Rattle.discharge.specs.declared.error.CloseFault.TheVariants as close
 use Rattle.cnf_core.specs.declared.literals.TheConstants.{MAX_VARIABLE}
 use Rattle.memory_spec.specs.Runs.{Run}
 use Rattle.term_core_spec.specs.Term.{Term}
@@ -23,8 +26,6 @@ use Rattle.discharge_spec.specs.declared.GoalQuantity.TheVariants.{Terms, Variab
 use Rattle.discharge_spec.specs.Closing.{Closing, Closes, IsLarge, Fails, Unclosed, is_empty, is_truth, has_no_step, after, at_end, checked, closing, closing_of_form, closing_of_clauses}
 use Rattle.discharge.specs.Answers.{Answers, TakesFirst}
 use Rattle.discharge.proofs.Rest.{step_taken}
-use Rattle.discharge.specs.declared.error.CloseError.{CloseError}
-use Rattle.discharge.specs.declared.error.CloseError.TheVariants as close
 use Rattle.cert_text_spec.specs.Derivation as derivation
 use Rattle.cert_text_spec.specs.Derivation.{Derives}
 use Rattle.cert_text_spec.specs.Lines.{Line, LogStep}
@@ -111,7 +112,7 @@ follows_fit variables clauses ls hints follows = by (list_all (is_of variables) 
 
 -- what adding a step with the literals that are kept comes to
 pub kept_step : (before left : List Step) (s : Step) → before ≡ s ∷ left → (old new : Logged) (ls : List Literal) (hints : List ℕ) → ls ≡ map clipped s.literals → hints ≡ s.hints
-    → old.cnf.variables ≤ MAX_VARIABLE → (result : Result (Unit {0}) StepError) → OnOk result (outcome old.cnf.variables (clauses_of old) ls hints ≡ Follows)
+    → old.cnf.variables ≤ MAX_VARIABLE → (result : Result (Unit {0}) (Refusal StepFault)) → OnOk result (outcome old.cnf.variables (clauses_of old) ls hints ≡ Follows)
     → ((hint : ℕ) (kind : StepFaultKind) → (result ≡ Err (Fault (record { hint = hint; kind = kind }))) ↔ (outcome old.cnf.variables (clauses_of old) ls hints ≡ Refused hint kind))
     → new.cnf ≡ old.cnf → OnOk result (new.added ≡ old.added ++ ls ∷ []) → TakesFirst before left old new result
 kept_step before left s first old new ls hints literals_are hints_are below =
@@ -209,14 +210,14 @@ closing_within runs goal steps = by_size (nat_le (subterm_count goal) MAX_TERMS)
     by_size false = tt
 
 -- it is one of the steps
-pub number_within : (runs : List Run) (goal : Term) (steps : List Step) (error : CloseError) → Answers {A = Unit {0}} (closing runs goal steps) (Err error)
+pub number_within : (runs : List Run) (goal : Term) (steps : List Step) (error : Refusal CloseFault) → Answers {A = Unit {0}} (closing runs goal steps) (Err error)
     → number_in error ≤ length steps
-number_within runs goal steps (close.Step number) answers =
+number_within runs goal steps (Fault (close.Step number)) answers =
     let within : number < 1 + length steps = subst (IsWithin (1 + length steps)) answers (closing_within runs goal steps) in
     omega (arith, within)
-number_within runs goal steps close.Unclosed answers = omega arith
-number_within runs goal steps close.NoMemory answers = omega arith
-number_within runs goal steps (close.Large quantity count) answers = omega arith
+number_within runs goal steps (Fault close.Unclosed) answers = omega arith
+number_within runs goal steps NoMemory answers = omega arith
+number_within runs goal steps (Fault (close.Large quantity count)) answers = omega arith
 
 -- ---- the first step of lines
 
@@ -245,7 +246,7 @@ lines_some lines literals hints some = subst (λ (n : ℕ). 0 < n) (steps_count 
 pub taken_first : (lines : List CodeLine) (literals : List CodeLiteral) (hints : List ℕ) (d : CodeLine) (counts : ℕ × ℕ) (lines_left : List CodeLine) (literals_left : List CodeLiteral)
     (hints_left : List ℕ) → 0 < length (steps_of lines literals hints) → counts ≡ (literals_in (get_or lines 0 d), hints_in (get_or lines 0 d)) → lines_left ≡ drop 1 lines
     → literals_left ≡ drop counts.0 literals → hints_left ≡ drop counts.1 hints → (old new : Logged) (ls : List Literal) (by : List ℕ) → ls ≡ kept_of (take counts.0 literals)
-    → by ≡ take counts.1 hints → old.cnf.variables ≤ MAX_VARIABLE → (result : Result (Unit {0}) StepError)
+    → by ≡ take counts.1 hints → old.cnf.variables ≤ MAX_VARIABLE → (result : Result (Unit {0}) (Refusal StepFault))
     → OnOk result (outcome old.cnf.variables (clauses_of old) ls by ≡ Follows)
     → ((hint : ℕ) (kind : StepFaultKind) → (result ≡ Err (Fault (record { hint = hint; kind = kind }))) ↔ (outcome old.cnf.variables (clauses_of old) ls by ≡ Refused hint kind))
     → new.cnf ≡ old.cnf → OnOk result (new.added ≡ old.added ++ ls ∷ [])

@@ -10,7 +10,8 @@ use Rattle.cert_text_spec.specs.Lines.{Log}
 use Rattle.cert_check_spec.specs.Verdict as spec
 use Rattle.cert_check_frames.specs.declared.listed.Listed.{Listed}
 use Rattle.cert_check_frames.specs.Listed.{AreListed}
-use Rattle.cert_check.specs.declared.fault.Fault.{Fault}
+use Rattle.attempt.specs.declared.refusal.Refusal.{Refusal}
+use Rattle.cert_check.specs.declared.fault.NamedFault.{NamedFault}
 use Rattle.cert_check.specs.declared.walk.Walk.{Walk}
 use Rattle.cert_check.specs.Logs.{steps_of}
 use Rattle.cert_check.specs.Outcomes.{IsFaultAt}
@@ -18,7 +19,7 @@ use Rattle.cert_check.specs.Walks.{IsWalk, IsPlain, Goes, GoesLog, IsFaultName}
 use Rattle.cert_check.proofs.Walked.{IsWalked, IsLineAt, line_there, step_passed, can_log, lines_counted, log_passed_on, log_breaks, can_step, one_more, breaks, fault_name}
 
 -- a fault at the line of an index
-abbrev pub IsFirst : List Listed → Cert → ℕ × Fault → Type 0
+abbrev pub IsFirst : List Listed → Cert → ℕ × Refusal NamedFault → Type 0
 IsFirst codes cert first =
     (first.0 < length cert.lines.items) × ((listed : List spec.Listed) → AreListed codes listed → IsFaultAt codes cert listed first.0 first.1)
 
@@ -54,7 +55,7 @@ module _ (codes : List Listed) (cert : Cert) (walk : Walk) (literals : List Lite
     pub log_can : IsWalk codes walk (Log (length lines))
     log_can = subst (λ (m : ℕ). IsWalk codes walk (Log m)) counted (can_log codes cert walk literals hints i n walked log_there)
 
-    here : (now : Walk) (result : Result (Unit {0}) (ℕ × Fault)) → GoesLog codes walk now (length lines) (steps_of lines literals hints) i result
+    here : (now : Walk) (result : Result (Unit {0}) (ℕ × Refusal NamedFault)) → GoesLog codes walk now (length lines) (steps_of lines literals hints) i result
         → GoesLog codes walk now n (steps_of (take n (drop (i + 1) cert.lines.items)) literals hints) i result
     here now result goes =
         subst (λ (m : ℕ). GoesLog codes walk now m (steps_of (take n (drop (i + 1) cert.lines.items)) literals hints) i result) (sym counted)
@@ -63,7 +64,7 @@ module _ (codes : List Listed) (cert : Cert) (walk : Walk) (literals : List Lite
     pub log_turn : (now : Walk) → GoesLog codes walk now (length lines) (steps_of lines literals hints) i (Ok (tt {0})) → IsWalked codes cert now literals hints (i + 1)
     log_turn now goes = log_passed_on codes cert walk literals hints i n walked log_there now (here now (Ok tt) goes)
 
-    pub log_fault : (now : Walk) (first : ℕ × Fault) → GoesLog codes walk now (length lines) (steps_of lines literals hints) i (Err first) → IsFirst codes cert first
+    pub log_fault : (now : Walk) (first : ℕ × Refusal NamedFault) → GoesLog codes walk now (length lines) (steps_of lines literals hints) i (Err first) → IsFirst codes cert first
     log_fault now first goes = log_breaks codes cert walk literals hints i n walked log_there now first (here now (Err first) goes) within
 
   -- ---- another line
@@ -74,7 +75,7 @@ module _ (codes : List Listed) (cert : Cert) (walk : Walk) (literals : List Lite
   pub other_turn : IsPlain line → (now : Walk) → Goes codes walk now (line_of line) i (Ok (tt {0})) → IsWalked codes cert now literals hints (i + 1)
   other_turn plain now goes = one_more codes cert walk literals hints i line walked there plain now goes
 
-  pub other_fault : IsPlain line → (now : Walk) (f : Fault) → Goes codes walk now (line_of line) i (Err f) → IsFirst codes cert (i, f)
+  pub other_fault : IsPlain line → (now : Walk) (f : Refusal NamedFault) → Goes codes walk now (line_of line) i (Err f) → IsFirst codes cert (i, f)
   other_fault plain now f goes = (
     within,
     breaks codes cert walk literals hints i line walked there plain now f goes

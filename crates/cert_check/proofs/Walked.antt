@@ -21,8 +21,10 @@ use Rattle.cert_check_spec.specs.Verdict as spec
 use Rattle.cert_check_spec.specs.Verdict.{State, Between, Inside, Fault, NotProof, Limit, AreSteps, Passes, Fails, Proves, Refutes, IsProof, IsFault}
 use Rattle.cert_check.specs.declared.fault.Named.{Named}
 use Rattle.cert_check.specs.declared.fault.Named.TheVariants as named
-use Rattle.cert_check.specs.declared.fault.Fault.{Fault as LineFault}
-use Rattle.cert_check.specs.declared.fault.Fault.TheVariants as broken
+use Rattle.attempt.specs.declared.refusal.Refusal.{Refusal}
+use Rattle.attempt.specs.declared.refusal.Refusal.TheVariants as refusal
+use Rattle.cert_check.specs.declared.fault.NamedFault.{NamedFault}
+use Rattle.cert_check.specs.declared.fault.NamedFault.TheVariants as broken
 use Rattle.cert_check_frames.specs.declared.jobs.Job.{Job}
 use Rattle.cert_check_frames.specs.declared.listed.Listed.{Listed}
 use Rattle.cert_check.specs.declared.walk.Walk.{Walk}
@@ -410,17 +412,17 @@ module _ (codes : List Listed) (cert : Cert) (walk : Walk) (literals : List Lite
       (line_fails listed (certificate_of cert) i (line_of line) s 0 f at_line continues fails)
 
   -- a line that breaks a rule or a limit
-  pub breaks : (now : Walk) (f : LineFault) → Goes codes walk now (line_of line) i (Err f)
+  pub breaks : (now : Walk) (f : Refusal NamedFault) → Goes codes walk now (line_of line) i (Err f)
       → ((function : Named) (name : List ℕ) → IsFaultName codes (line_of line) i function name → name_in codes cert.lines.items function ≡ Some name)
       → (listed : List spec.Listed) → AreListed codes listed → IsFaultAt codes cert listed i f
-  breaks now (broken.Broken function rule) goes is_name listed are =
+  breaks now (refusal.Fault (broken.Broken function rule)) goes is_name listed are =
       let before = from listed are in
       let to = goes.step listed (drop (i + 1) (certificate_of cert)) are before.0 before.1 in
       (to.0, is_name function to.0 to.1, fails_here listed before.0 (NotProof to.0 rule) before.2 to.2)
-  breaks now (broken.Above q) goes is_name listed are =
+  breaks now (refusal.Fault (broken.Above q)) goes is_name listed are =
       let before = from listed are in
       fails_here listed before.0 (Limit q) before.2 (goes.step listed (drop (i + 1) (certificate_of cert)) are before.0 before.1)
-  breaks now broken.NoMemory goes is_name listed are = tt
+  breaks now refusal.NoMemory goes is_name listed are = tt
 
 -- ---- the line of a log
 
@@ -515,23 +517,23 @@ module _ (codes : List Listed) (cert : Cert) (walk : Walk) (literals : List Lite
       by_next listed [] is next continues at = absurd (not_last walk ALog log_expects.others log_expecting refl is)
       by_next listed (e ∷ others) is next continues at = on e others next at continues
 
-  log_fails_at : (listed : List spec.Listed) (s : State) (line : ℕ) (f : LineFault) → Continues listed (certificate_of cert) i s
+  log_fails_at : (listed : List spec.Listed) (s : State) (line : ℕ) (f : Refusal NamedFault) → Continues listed (certificate_of cert) i s
       → LogFails codes listed (drop (i + 1) (certificate_of cert)) s n i line f → IsFaultAt codes cert listed line f
-  log_fails_at listed s line (broken.Broken (named.Listed k) rule) continues (later, at, name, is_named, fails) = (
+  log_fails_at listed s line (refusal.Fault (broken.Broken (named.Listed k) rule)) continues (later, at, name, is_named, fails) = (
     name,
     ap (option_map (λ (f : Listed). f.name.now)) is_named.there ∙ ap Some is_named.named,
     subst (λ (m : ℕ). IsFault listed (certificate_of cert) (length (text_of (take m (certificate_of cert)))) (NotProof name rule)) (sym at)
         (line_fails listed (certificate_of cert) i (Log n) s later (NotProof name rule) there.at continues fails),
   )
-  log_fails_at listed s line (broken.Broken (named.Line m) rule) continues fails = absurd fails
-  log_fails_at listed s line (broken.Above q) continues (at, fails) =
+  log_fails_at listed s line (refusal.Fault (broken.Broken (named.Line m) rule)) continues fails = absurd fails
+  log_fails_at listed s line (refusal.Fault (broken.Above q)) continues (at, fails) =
       let same : i + 0 ≡ line = omega (arith, at) in
       subst (λ (m : ℕ). IsFault listed (certificate_of cert) (length (text_of (take m (certificate_of cert)))) (Limit q)) same
       (line_fails listed (certificate_of cert) i (Log n) s 0 (Limit q) there.at continues fails)
-  log_fails_at listed s line broken.NoMemory continues fails = tt
+  log_fails_at listed s line refusal.NoMemory continues fails = tt
 
   -- a log that breaks a rule or a limit
-  pub log_breaks : (now : Walk) (first : ℕ × LineFault) → GoesLog codes walk now n (steps_of the_lines literals hints) i (Err first) → i < length cert.lines.items
+  pub log_breaks : (now : Walk) (first : ℕ × Refusal NamedFault) → GoesLog codes walk now n (steps_of the_lines literals hints) i (Err first) → i < length cert.lines.items
       → (first.0 < length cert.lines.items) × ((listed : List spec.Listed) → AreListed codes listed → IsFaultAt codes cert listed first.0 first.1)
   log_breaks now first goes within = (
     omega (arith, goes.within, lines_within within),

@@ -4,16 +4,18 @@ use Rattle.clause_check_spec.specs.declared.Literal as clause
 use Rattle.clause_check_spec.specs.Log.{Step}
 use Rattle.cnf_core.specs.declared.literals.TheConstants.{MAX_VARIABLE}
 use Rattle.discharge_spec.specs.declared.GoalQuantity.TheVariants as above
-use Rattle.discharge.specs.declared.error.CloseError.{CloseError}
-use Rattle.discharge.specs.declared.error.CloseError.TheVariants as close
-use Rattle.cert_check_spec.specs.declared.RuleFault.TheVariants as fault
-use Rattle.cert_check_spec.specs.declared.Quantity.TheVariants as quantity
+use Rattle.attempt.specs.declared.refusal.Refusal.{Refusal}
+use Rattle.attempt.specs.declared.refusal.Refusal.TheVariants.{Fault, NoMemory}
+use Rattle.discharge.specs.declared.error.CloseFault.{CloseFault}
+use Rattle.cert_check.specs.declared.fault.NamedFault.{NamedFault}
+use Rattle.cert_check.specs.declared.fault.NamedFault.TheVariants.{Broken, Above}
+use Rattle.discharge.specs.declared.error.CloseFault.TheVariants as close
+use Rattle.cert_check_spec.specs.declared.RuleWord.TheVariants as fault
+use Rattle.tv_limits.specs.declared.Quantity.TheVariants as quantity
 use Rattle.cert_text_parse.specs.declared.lines.Literal.{Literal}
 use Rattle.cert_text_parse.specs.declared.lines.Line.{Line}
 use Rattle.cert_text_parse.specs.Views.{literal_of, literals_in, hints_in}
 use Rattle.cert_check.specs.declared.fault.Named.TheVariants as named
-use Rattle.cert_check.specs.declared.fault.Fault.{Fault}
-use Rattle.cert_check.specs.declared.fault.Fault.TheVariants.{Broken, Above, NoMemory}
 
 -- the steps of these lines, where these literals and hints are next
 unfoldable pub steps_of : List Line → List Literal → List ℕ → List Step
@@ -27,14 +29,14 @@ abbrev pub clipped : clause.Literal → clause.Literal
 clipped l = if nat_le l.variable MAX_VARIABLE then l else record { variable = 0; is_negated = l.is_negated }
 
 -- the number of the step that doesn't follow
-abbrev pub number_in : CloseError → ℕ
-number_in (close.Step number) = number
+abbrev pub number_in : Refusal CloseFault → ℕ
+number_in (Fault (close.Step number)) = number
 number_in other = 0
 
 -- where and for what a log fails that is at the line of an index, in the part of a listed function
-abbrev pub line_fault : (part index : ℕ) → CloseError → ℕ × Fault
-line_fault part index (close.Large above.Terms count) = (index, Above quantity.Terms)
-line_fault part index (close.Large above.Variables count) = (index, Above quantity.Variables)
-line_fault part index (close.Step number) = (index + number, Broken (named.Listed part) fault.Step)
-line_fault part index close.Unclosed = (index, Broken (named.Listed part) fault.Unclosed)
-line_fault part index close.NoMemory = (index, NoMemory)
+abbrev pub line_fault : (part index : ℕ) → Refusal CloseFault → ℕ × Refusal NamedFault
+line_fault part index (Fault (close.Large above.Terms count)) = (index, Fault (Above quantity.Terms))
+line_fault part index (Fault (close.Large above.Variables count)) = (index, Fault (Above quantity.Variables))
+line_fault part index (Fault (close.Step number)) = (index + number, Fault (Broken (named.Listed part) fault.Step))
+line_fault part index (Fault close.Unclosed) = (index, Fault (Broken (named.Listed part) fault.Unclosed))
+line_fault part index NoMemory = (index, NoMemory)

@@ -13,17 +13,19 @@ use Rattle.proof_tree_spec.specs.Frames.{Frame}
 use Rattle.sim_rules_spec.specs.Obligations as rule
 use Rattle.sim_rules_spec.specs.Obligations.{IsCyclicRule, IsLargeRule}
 use Rattle.sim_rules.specs.Outcome.{AreObligations, HasFewVisits}
-use Rattle.sim_rules.specs.declared.fault.RuleFault.{RuleFault as RuleError}
+use Rattle.attempt.specs.declared.refusal.Refusal.{Refusal}
+use Rattle.attempt.specs.declared.refusal.Refusal.TheVariants.{Fault, NoMemory}
+use Rattle.sim_rules.specs.declared.fault.RuleFault.{RuleFault}
+use Rattle.cert_check.specs.declared.fault.PartFault.{PartFault}
+use Rattle.cert_check.specs.declared.fault.PartFault.TheVariants.{Broken, Above}
 use Rattle.sim_rules.specs.declared.fault.RuleFault.TheVariants as obligation
 use Rattle.cert_text_spec.specs.declared.Symbol.{Symbol}
 use Rattle.cert_text_spec.specs.Lines.{Line}
 use Rattle.tv_limits.specs.declared.TheConstants.{MAX_VISITS}
-use Rattle.cert_check_spec.specs.declared.RuleFault.TheVariants as fault
-use Rattle.cert_check_spec.specs.declared.Quantity.TheVariants as quantity
+use Rattle.cert_check_spec.specs.declared.RuleWord.TheVariants as fault
+use Rattle.tv_limits.specs.declared.Quantity.TheVariants as quantity
 use Rattle.cert_check_spec.specs.Verdict as spec
 use Rattle.cert_check_spec.specs.Verdict.{Inside, Passes, Fails, NotProof, Limit, IsTest}
-use Rattle.cert_check.specs.declared.fault.PartFault.{PartFault}
-use Rattle.cert_check.specs.declared.fault.PartFault.TheVariants.{Broken, Above, NoMemory}
 use Rattle.cert_check_frames.specs.declared.jobs.Job.{Job}
 use Rattle.cert_check_frames.specs.declared.listed.Listed.{Listed}
 use Rattle.cert_check_frames.specs.Listed.{IsListed, frame_at, terms_given}
@@ -52,14 +54,14 @@ IsKept f trees o jobs = IsKeptBy f trees (get same_variable o.binary.now) (get s
 
 -- the line breaks no rule, and leaves these jobs; or this is what it breaks
 abbrev pub Comes : (listed : List spec.Listed) → (ahead : List Line) → (parts : List spec.Listed) → (f : spec.Listed) → (before after : List spec.Job) → Line
-    → Result (Unit {0}) PartFault → Type 0
+    → Result (Unit {0}) (Refusal PartFault) → Type 0
 Comes listed ahead parts f before after line (Ok done) = Passes listed ahead (Inside parts f before) line (Inside parts f after)
-Comes listed ahead parts f before after line (Err (Broken broken)) = Fails listed ahead (Inside parts f before) line 0 (NotProof f.name broken)
-Comes listed ahead parts f before after line (Err (Above q)) = Fails listed ahead (Inside parts f before) line 0 (Limit q)
+Comes listed ahead parts f before after line (Err (Fault (Broken broken))) = Fails listed ahead (Inside parts f before) line 0 (NotProof f.name broken)
+Comes listed ahead parts f before after line (Err (Fault (Above q))) = Fails listed ahead (Inside parts f before) line 0 (Limit q)
 Comes listed ahead parts f before after line (Err NoMemory) = Unit {0}
 
 -- whatever lines are after it
-abbrev pub IsStep : Listed → (old new : List Term) → (before after : List Job) → Line → Result (Unit {0}) PartFault → Type 0
+abbrev pub IsStep : Listed → (old new : List Term) → (before after : List Job) → Line → Result (Unit {0}) (Refusal PartFault) → Type 0
 IsStep code old new before after line result =
     (listed : List spec.Listed) (ahead : List Line) (parts : List spec.Listed) (f : spec.Listed) → IsListed code f
     → Comes listed ahead parts f (jobs_of old (frame_at code) before) (jobs_of new (frame_at code) after) line result
@@ -73,34 +75,34 @@ pub record HasLeaf (c : Convention) (o : rules.Opening) (frame : Frame) (trees :
   pub are : AreObligations trees c o frame rule.Leaf goals
 
 -- the obligations of a Leaf at a frame, or why it has none
-abbrev pub AreGoalsOf : Convention → rules.Opening → Frame → List Term → Result (Vec ℕ Global) PartFault → Type 0
+abbrev pub AreGoalsOf : Convention → rules.Opening → Frame → List Term → Result (Vec ℕ Global) (Refusal PartFault) → Type 0
 AreGoalsOf c o frame trees (Ok goals) = HasLeaf c o frame trees goals.items
-AreGoalsOf c o frame trees (Err (Broken fault.Cyclic)) = (node : ℕ) × IsCyclicRule o frame rule.Leaf node
-AreGoalsOf c o frame trees (Err (Broken other)) = ⊥
-AreGoalsOf c o frame trees (Err (Above quantity.Visits)) = (count : ℕ) × IsLargeRule o frame MAX_VISITS rule.Leaf count
-AreGoalsOf c o frame trees (Err (Above other)) = ⊥
+AreGoalsOf c o frame trees (Err (Fault (Broken fault.Cyclic))) = (node : ℕ) × IsCyclicRule o frame rule.Leaf node
+AreGoalsOf c o frame trees (Err (Fault (Broken other))) = ⊥
+AreGoalsOf c o frame trees (Err (Fault (Above quantity.Visits))) = (count : ℕ) × IsLargeRule o frame MAX_VISITS rule.Leaf count
+AreGoalsOf c o frame trees (Err (Fault (Above other))) = ⊥
 AreGoalsOf c o frame trees (Err NoMemory) = Unit {0}
 
 -- where the frame at the entry has these further premises
-abbrev pub AreGoals : spec.Listed → List Term → (premises : List Term) → Result (Vec ℕ Global) PartFault → Type 0
+abbrev pub AreGoals : spec.Listed → List Term → (premises : List Term) → Result (Vec ℕ Global) (Refusal PartFault) → Type 0
 AreGoals f trees premises result = AreGoalsOf f.convention f.opening (frame_with f.frame premises) trees result
 
-abbrev pub HasGoals : Listed → List Term → (premises : List Term) → Result (Vec ℕ Global) PartFault → Type 0
+abbrev pub HasGoals : Listed → List Term → (premises : List Term) → Result (Vec ℕ Global) (Refusal PartFault) → Type 0
 HasGoals code trees premises result = (f : spec.Listed) → IsListed code f → AreGoals f trees premises result
 
-abbrev pub goal_fault_of : RuleError → PartFault
-goal_fault_of (obligation.Sort index) = Broken fault.Sort
-goal_fault_of (obligation.Cyclic node) = Broken fault.Cyclic
-goal_fault_of (obligation.Large count) = Above quantity.Visits
-goal_fault_of obligation.NoMemory = NoMemory
+abbrev pub goal_fault_of : Refusal RuleFault → Refusal PartFault
+goal_fault_of (Fault (obligation.Sort index)) = Fault (Broken fault.Sort)
+goal_fault_of (Fault (obligation.Cyclic side node)) = Fault (Broken fault.Cyclic)
+goal_fault_of (Fault (obligation.Large side count)) = Fault (Above quantity.Visits)
+goal_fault_of NoMemory = NoMemory
 
 -- the id of the test that the symbols spell, or there is none
-abbrev pub IsTestAt : spec.Listed → List Symbol → List Term → Result ℕ PartFault → Type 0
+abbrev pub IsTestAt : spec.Listed → List Symbol → List Term → Result ℕ (Refusal PartFault) → Type 0
 IsTestAt f symbols trees (Ok id) = (id < length trees) × IsTest f.frame symbols (tree_at trees id)
-IsTestAt f symbols trees (Err (Broken fault.Sort)) = (test : Term) → IsTest f.frame symbols test → ⊥
-IsTestAt f symbols trees (Err (Broken other)) = ⊥
-IsTestAt f symbols trees (Err (Above q)) = ⊥
+IsTestAt f symbols trees (Err (Fault (Broken fault.Sort))) = (test : Term) → IsTest f.frame symbols test → ⊥
+IsTestAt f symbols trees (Err (Fault (Broken other))) = ⊥
+IsTestAt f symbols trees (Err (Fault (Above q))) = ⊥
 IsTestAt f symbols trees (Err NoMemory) = Unit {0}
 
-abbrev pub IsTested : Listed → List Symbol → List Term → Result ℕ PartFault → Type 0
+abbrev pub IsTested : Listed → List Symbol → List Term → Result ℕ (Refusal PartFault) → Type 0
 IsTested code symbols trees result = (f : spec.Listed) → IsListed code f → IsTestAt f symbols trees result

@@ -4,9 +4,10 @@ ghost use Rattle.cert_check.specs.Outcomes as outcomes;
 ghost use Rattle.cert_check.specs.Outcomes.{HasName, name_in};
 
 use cert_check_frames::Listed;
-use cert_check_spec::{Quantity, RuleFault};
+use cert_check_spec::RuleWord;
 use cert_text::Cert;
 use cert_text_parse::Line;
+use tv_limits::Quantity;
 
 /// The function that a fault names.
 #[derive(Clone, Copy)]
@@ -27,37 +28,31 @@ pub enum CheckFault {
         /// where the line begins in the text, in bytes
         offset: usize,
         /// the rule
-        rule: RuleFault,
+        rule: RuleWord,
     },
     /// A quantity is above its maximum.
     Limit {
         /// the quantity
         quantity: Quantity,
     },
-    /// Out of memory.
-    NoMemory,
 }
 
 /// What is wrong at a line.
 #[derive(Clone, Copy)]
-pub(crate) enum Fault {
+pub(crate) enum NamedFault {
     /// It breaks a rule in the part of a function.
-    Broken(Named, RuleFault),
+    Broken(Named, RuleWord),
     /// A quantity is above its maximum.
     Above(Quantity),
-    /// Out of memory.
-    NoMemory,
 }
 
 /// What is wrong at a line of a part.
 #[derive(Clone, Copy)]
 pub(crate) enum PartFault {
     /// It breaks a rule.
-    Broken(RuleFault),
+    Broken(RuleWord),
     /// A quantity is above its maximum.
     Above(Quantity),
-    /// Out of memory.
-    NoMemory,
 }
 
 // The name of the function whose part begins at a line, if one does.

@@ -5,15 +5,16 @@ ghost use Rattle.cert_text_parse.specs.Views as views;
 ghost use Rattle.cert_text_parse.specs.Views.{hints_in, literals_in};
 ghost use Rattle.cert_check.specs.Logs.{clipped, line_fault, number_in, steps_of};
 
-use crate::fault::{Fault, Named};
-use attempt::attempt;
-use cert_check_spec::{Quantity, RuleFault};
+use crate::fault::{Named, NamedFault};
+use attempt::{Refusal, attempt};
+use cert_check_spec::RuleWord;
 use cert_text_parse::Line;
-use clause_check::{Log, StepError};
+use clause_check::{Log, StepFault};
 use cnf_core::Literal;
-use discharge::{CloseError, Steps};
+use discharge::{CloseFault, Steps};
 use discharge_spec::GoalQuantity;
 use std::alloc::{AllocError, Global};
+use tv_limits::Quantity;
 
 /// The steps of a log that are left: their lines, and the literals and hints from the first on.
 #[derive(Drop)]
@@ -100,15 +101,15 @@ impl<'a> Steps for LogSteps<'a> {
         self.lines.len()
     }
 
-    fn add_first(&mut self, alloc: Global, checker: &mut Log) -> Result<(), StepError> {
+    fn add_first(&mut self, alloc: Global, checker: &mut Log) -> Result<(), Refusal<StepFault>> {
         let (literals, hints) = counts(&self.lines[0]);
         let step = attempt!(
             kept_literals(alloc, front(self.literals, literals)),
-            StepError::NoMemory
+            Refusal::NoMemory
         );
         let by = attempt!(
             kept_hints(alloc, front(self.hints, hints)),
-            StepError::NoMemory
+            Refusal::NoMemory
         );
         self.lines = rest(self.lines, 1);
         self.literals = rest(self.literals, literals);
@@ -119,21 +120,31 @@ impl<'a> Steps for LogSteps<'a> {
 
 /// Why a log at the line of an index doesn't close an obligation of the part of a listed function,
 /// and the index of the line that this names.
-pub(crate) fn log_fault(part: usize, index: usize, error: CloseError) -> (usize, Fault)
+pub(crate) fn log_fault(
+    part: usize,
+    index: usize,
+    error: Refusal<CloseFault>,
+) -> (usize, Refusal<NamedFault>)
     requires { index + number_in error < 2 ^ 64 }
     ensures { result ≡ line_fault part index error }
 {
     match error {
-        CloseError::Large(GoalQuantity::Terms, _) => (index, Fault::Above(Quantity::Terms)),
-        CloseError::Large(GoalQuantity::Variables, _) => (index, Fault::Above(Quantity::Variables)),
-        CloseError::Step(number) => (
-            index + number,
-            Fault::Broken(Named::Listed(part), RuleFault::Step),
-        ),
-        CloseError::Unclosed => (
+        Refusal::Fault(CloseFault::Large(GoalQuantity::Terms, _)) => (
             index,
-            Fault::Broken(Named::Listed(part), RuleFault::Unclosed),
+            Refusal::Fault(NamedFault::Above(Quantity::Terms)),
         ),
-        CloseError::NoMemory => (index, Fault::NoMemory),
+        Refusal::Fault(CloseFault::Large(GoalQuantity::Variables, _)) => (
+            index,
+            Refusal::Fault(NamedFault::Above(Quantity::Variables)),
+        ),
+        Refusal::Fault(CloseFault::Step(number)) => (
+            index + number,
+            Refusal::Fault(NamedFault::Broken(Named::Listed(part), RuleWord::Step)),
+        ),
+        Refusal::Fault(CloseFault::Unclosed) => (
+            index,
+            Refusal::Fault(NamedFault::Broken(Named::Listed(part), RuleWord::Unclosed)),
+        ),
+        Refusal::NoMemory => (index, Refusal::NoMemory),
     }
 }

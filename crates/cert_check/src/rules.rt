@@ -14,9 +14,9 @@ ghost use Rattle.cert_check.specs.Steps.{AreGoalsOf, AreOpened, HasGoals, IsKept
 ghost use Rattle.cert_check.specs.Steps.{IsTested, goal_fault_of};
 
 use crate::fault::PartFault;
-use attempt::attempt;
+use attempt::{Refusal, attempt};
 use cert_check_frames::{Branch, Job, Listed, frame, push_branches, push_goals, take_proof, tests};
-use cert_check_spec::{Quantity, RuleFault};
+use cert_check_spec::RuleWord;
 use cert_check_terms::{TermFault, read_line};
 use cert_text_spec::Symbol;
 use proof_tree::Frame;
@@ -24,19 +24,25 @@ use sim_rules::{Rule, Setup, obligations};
 use sim_rules_terms::{Convention, Opening};
 use std::alloc::Global;
 use term_bank::{Bank, TermId};
-use tv_limits::MAX_VISITS;
+use tv_limits::{MAX_VISITS, Quantity};
 
 // ---- Leaf
 
 // Why a Leaf has no obligations. It has no line, so none is ill-sorted.
-fn leaf_fault(fault: sim_rules::RuleFault) -> PartFault
+fn leaf_fault(fault: Refusal<sim_rules::RuleFault>) -> Refusal<PartFault>
     ensures { result ≡ goal_fault_of fault }
 {
     match fault {
-        sim_rules::RuleFault::Sort(_) => PartFault::Broken(RuleFault::Sort),
-        sim_rules::RuleFault::Cyclic(_) => PartFault::Broken(RuleFault::Cyclic),
-        sim_rules::RuleFault::Large(_) => PartFault::Above(Quantity::Visits),
-        sim_rules::RuleFault::NoMemory => PartFault::NoMemory,
+        Refusal::Fault(sim_rules::RuleFault::Sort(_)) => Refusal::Fault(PartFault::Broken(
+            RuleWord::Sort,
+        )),
+        Refusal::Fault(sim_rules::RuleFault::Cyclic(_, _)) => Refusal::Fault(PartFault::Broken(
+            RuleWord::Cyclic,
+        )),
+        Refusal::Fault(sim_rules::RuleFault::Large(_, _)) => Refusal::Fault(PartFault::Above(
+            Quantity::Visits,
+        )),
+        Refusal::NoMemory => Refusal::NoMemory,
     }
 }
 
@@ -47,7 +53,7 @@ fn frame_goals(
     convention: &Convention<'_>,
     opening: Opening<'_>,
     bank: &mut Bank,
-) -> Result<Vec<TermId>, PartFault>
+) -> Result<Vec<TermId>, Refusal<PartFault>>
     requires { IsOpeningIn (length bank.old) opening }
     ensures goals { (c : points.Convention) (o : opened.Opening) → IsConventionOf convention.now c
         → IsOpening bank.old o opening.entry
@@ -77,17 +83,17 @@ fn leaf_goals(
     opening: Opening<'_>,
     bank: &mut Bank,
     premises: &[Branch],
-) -> Result<Vec<TermId>, PartFault>
+) -> Result<Vec<TermId>, Refusal<PartFault>>
     requires opened { AreOpened function.now bank.old opening }
     requires below { AreBelow (length bank.old) premises.now }
     ensures goals { HasGoals function.now bank.new (premises_at bank.old premises.now) result }
     ensures within { IfOk result (λ goals. All (λ goal. goal < length bank.new) goals.items) }
     ensures extends { Extends bank.old bank.new }
 {
-    let tests = attempt!(tests(alloc, bank, premises), PartFault::NoMemory);
+    let tests = attempt!(tests(alloc, bank, premises), Refusal::NoMemory);
     let frame = attempt!(
         frame(alloc, &*function, premises, tests.as_slice()),
-        PartFault::NoMemory
+        Refusal::NoMemory
     );
     frame_goals(alloc, &frame, function.convention, opening, bank)
 }
@@ -100,7 +106,7 @@ pub(crate) fn leaf(
     bank: &mut Bank,
     jobs: &mut Vec<Job>,
     logs: u32,
-) -> Result<(), PartFault>
+) -> Result<(), Refusal<PartFault>>
     requires kept { IsKept function.now bank.old opening jobs.old.items }
     requires next { IsNext jobs.old.items (spec.Leaf logs) }
     ensures step { IsStep function.now bank.old bank.new jobs.old.items jobs.new.items
@@ -111,9 +117,9 @@ pub(crate) fn leaf(
     let premises = take_proof(jobs);
     let goals = attempt!(leaf_goals(alloc, function, opening, bank, premises.as_slice()));
     if goals.len() != logs as usize {
-        return Err(PartFault::Broken(RuleFault::Logs));
+        return Err(Refusal::Fault(PartFault::Broken(RuleWord::Logs)));
     }
-    attempt!(push_goals(jobs, goals.as_slice()), PartFault::NoMemory);
+    attempt!(push_goals(jobs, goals.as_slice()), Refusal::NoMemory);
     Ok(())
 }
 
@@ -125,15 +131,17 @@ fn test(
     function: &Listed<'_>,
     bank: &mut Bank,
     symbols: &[Symbol],
-) -> Result<TermId, PartFault>
+) -> Result<TermId, Refusal<PartFault>>
     ensures test { IsTested function.now symbols.now bank.new result }
     ensures within { IfOk result (λ test. test < length bank.new) }
     ensures extends { Extends bank.old bank.new }
 {
     match read_line(alloc, function.setting, function.path, symbols, bank) {
         Ok(test) => Ok(test),
-        Err(TermFault::Sort) => Err(PartFault::Broken(RuleFault::Sort)),
-        Err(TermFault::NoMemory) => Err(PartFault::NoMemory),
+        Err(Refusal::Fault(TermFault::Sort)) => Err(Refusal::Fault(PartFault::Broken(
+            RuleWord::Sort,
+        ))),
+        Err(Refusal::NoMemory) => Err(Refusal::NoMemory),
     }
 }
 
@@ -145,7 +153,7 @@ pub(crate) fn case(
     bank: &mut Bank,
     jobs: &mut Vec<Job>,
     symbols: &[Symbol],
-) -> Result<(), PartFault>
+) -> Result<(), Refusal<PartFault>>
     requires kept { IsKept function.now bank.old opening jobs.old.items }
     requires next { IsNext jobs.old.items (spec.Case symbols.now) }
     ensures step { IsStep function.now bank.old bank.new jobs.old.items jobs.new.items
@@ -159,7 +167,7 @@ pub(crate) fn case(
     let premises = take_proof(jobs);
     attempt!(
         push_branches(alloc, jobs, premises.as_slice(), test),
-        PartFault::NoMemory
+        Refusal::NoMemory
     );
     Ok(())
 }

@@ -16,15 +16,15 @@ ghost use Rattle.cert_check.specs.Walks.{Begins, ClosesFirst, Ends, Goes, GoesIn
 ghost use Rattle.cert_check.specs.Walks.{IsInside, IsOpened, IsPlain, IsSound, IsWalk, Keeps};
 ghost use Rattle.cert_check.specs.Walks.{IsNextAt, named_fault};
 
-use crate::fault::{CheckFault, Fault, Named, PartFault};
+use crate::fault::{CheckFault, Named, NamedFault, PartFault};
 use crate::logs::{LogSteps, front, log_fault, rest};
 use crate::rules::{case, leaf};
-use attempt::attempt;
+use attempt::{Refusal, attempt};
 use cert_check_frames::{Job, Listed, free, known, missing, push_proof, take_goal};
-use cert_check_spec::RuleFault;
+use cert_check_spec::RuleWord;
 use cert_text::{Cert, offset};
 use cert_text_parse::{Line, Part};
-use discharge::{CloseError, close};
+use discharge::{CloseFault, close};
 use sim_rules_terms::{Known, Opening};
 use std::alloc::{AllocError, Global};
 use std::collections::HashMap;
@@ -65,16 +65,16 @@ fn enter(
     walk: &mut Walk,
     index: usize,
     stack: u32,
-) -> Result<(), Fault>
+) -> Result<(), Refusal<NamedFault>>
     requires { index < length listed.now }
     ensures { Begins listed.now walk.old walk.new index stack result }
 {
     let function = &listed[index];
     if function.stack != stack {
-        return Err(Fault::Broken(Named::Listed(index), RuleFault::Stack));
+        return Err(Refusal::Fault(NamedFault::Broken(Named::Listed(index), RuleWord::Stack)));
     }
-    attempt!(open(alloc, function, walk), Fault::NoMemory);
-    attempt!(walk.parts.push(index), Fault::NoMemory);
+    attempt!(open(alloc, function, walk), Refusal::NoMemory);
+    attempt!(walk.parts.push(index), Refusal::NoMemory);
     Ok(())
 }
 
@@ -85,24 +85,27 @@ fn begin(
     walk: &mut Walk,
     part: &Part,
     line: usize,
-) -> Result<(), Fault>
+) -> Result<(), Refusal<NamedFault>>
     requires { IsSound listed.now walk.old }
     ensures { Goes listed.now walk.old walk.new (spec.Function part.now.name.items part.now.stack)
         line result }
 {
     match free(listed, walk.parts.as_slice(), part.name.as_slice()) {
         Some(index) => enter(alloc, listed, walk, index, part.stack),
-        None => Err(Fault::Broken(Named::Line(line), RuleFault::Stranger)),
+        None => Err(Refusal::Fault(NamedFault::Broken(Named::Line(line), RuleWord::Stranger))),
     }
 }
 
 // `end`
-fn end(listed: &[Listed<'_>], parts: &[usize]) -> Result<(), Fault>
+fn end(listed: &[Listed<'_>], parts: &[usize]) -> Result<(), Refusal<NamedFault>>
     requires { AreIndices (length listed.now) parts.now }
     ensures { Ends listed.now parts.now result }
 {
     match missing(listed, parts) {
-        Some(index) => Err(Fault::Broken(Named::Listed(index), RuleFault::Missing)),
+        Some(index) => Err(Refusal::Fault(NamedFault::Broken(
+            Named::Listed(index),
+            RuleWord::Missing,
+        ))),
         None => Ok(()),
     }
 }
@@ -132,7 +135,7 @@ fn part_line(
     bank: &mut Bank,
     jobs: &mut Vec<Job>,
     line: &Line,
-) -> Result<(), PartFault>
+) -> Result<(), Refusal<PartFault>>
     requires kept { IsKept function.now bank.old opening jobs.old.items }
     requires next { IsNext jobs.old.items (line_of line.now) }
     requires inside { IsInside line.now }
@@ -143,7 +146,7 @@ fn part_line(
     ensures follows { OnOk result (AreAfter jobs.old.items (line_of line.now) jobs.new.items) }
 {
     if is_unchecked(line) {
-        return Err(PartFault::Broken(RuleFault::Later));
+        return Err(Refusal::Fault(PartFault::Broken(RuleWord::Later)));
     }
     match line {
         Line::Leaf(logs) => leaf(alloc, function, opening, bank, jobs, *logs),
@@ -153,13 +156,16 @@ fn part_line(
 }
 
 // What is wrong in the part of the listed function of an index.
-fn named(index: usize, fault: PartFault) -> Fault
+fn named(index: usize, fault: Refusal<PartFault>) -> Refusal<NamedFault>
     ensures { result ≡ named_fault index fault }
 {
     match fault {
-        PartFault::Broken(rule) => Fault::Broken(Named::Listed(index), rule),
-        PartFault::Above(quantity) => Fault::Above(quantity),
-        PartFault::NoMemory => Fault::NoMemory,
+        Refusal::Fault(PartFault::Broken(rule)) => Refusal::Fault(NamedFault::Broken(
+            Named::Listed(index),
+            rule,
+        )),
+        Refusal::Fault(PartFault::Above(quantity)) => Refusal::Fault(NamedFault::Above(quantity)),
+        Refusal::NoMemory => Refusal::NoMemory,
     }
 }
 
@@ -170,7 +176,7 @@ fn inside(
     walk: &mut Walk,
     index: usize,
     line: &Line,
-) -> Result<(), Fault>
+) -> Result<(), Refusal<NamedFault>>
     requires index { index < length listed.now }
     requires next { IsNextAt listed.now walk.old index (line_of line.now) }
     requires inside { IsInside line.now }
@@ -202,7 +208,7 @@ fn inside_last(
     listed: &[Listed<'_>],
     walk: &mut Walk,
     line: &Line,
-) -> Result<(), Fault>
+) -> Result<(), Refusal<NamedFault>>
     requires walk { IsWalk listed.now walk.old (line_of line.now) }
     requires inside { IsInside line.now }
     requires plain { IsPlain line.now }
@@ -219,7 +225,7 @@ fn step(
     walk: &mut Walk,
     line: &Line,
     index: usize,
-) -> Result<(), Fault>
+) -> Result<(), Refusal<NamedFault>>
     requires walk { IsWalk listed.now walk.old (line_of line.now) }
     requires plain { IsPlain line.now }
     ensures { Goes listed.now walk.old walk.new (line_of line.now) index result }
@@ -238,7 +244,7 @@ fn close_first(
     function: &Listed<'_>,
     walk: &mut Walk,
     steps: &mut LogSteps<'_>,
-) -> Result<(), CloseError>
+) -> Result<(), Refusal<CloseFault>>
     requires kept { Keeps function.now walk.old }
     requires next { IsGoalOnTop walk.old.jobs.items }
     ensures { ClosesFirst function.now walk.old walk.new
@@ -255,7 +261,7 @@ fn log(
     walk: &mut Walk,
     steps: &mut LogSteps<'_>,
     index: usize,
-) -> Result<(), (usize, Fault)>
+) -> Result<(), (usize, Refusal<NamedFault>)>
     requires walk { IsWalk listed.now walk.old (spec.Log (length steps.old.lines.now)) }
     requires room { index + length steps.old.lines.now < 2 ^ 64 }
     ensures { GoesLog listed.now walk.old walk.new (length steps.old.lines.now)
@@ -274,7 +280,7 @@ fn first_fault(
     listed: &[Listed<'_>],
     cert: &Cert,
     walk: &mut Walk,
-) -> Result<(), (usize, Fault)>
+) -> Result<(), (usize, Refusal<NamedFault>)>
     requires lines { AreLines (certificate_of cert.now) }
     requires nothing { walk.old.parts.items ≡ [] }
     ensures { IsChecked listed.now cert.now result }
@@ -306,21 +312,28 @@ fn first_fault(
 }
 
 // A fault at the line of an index, with the offset at which the line begins.
-fn placed(alloc: Global, cert: &Cert, line: usize, fault: Fault) -> CheckFault
+fn placed(
+    alloc: Global,
+    cert: &Cert,
+    line: usize,
+    fault: Refusal<NamedFault>,
+) -> Refusal<CheckFault>
     requires { line < length cert.now.lines.items }
     ensures { IsPlaced cert.now line fault result }
 {
     match fault {
-        Fault::Broken(function, rule) => match offset(alloc, cert, line) {
-            Ok(offset) => CheckFault::NotProof {
+        Refusal::Fault(NamedFault::Broken(function, rule)) => match offset(alloc, cert, line) {
+            Ok(offset) => Refusal::Fault(CheckFault::NotProof {
                 function,
                 offset,
                 rule,
-            },
-            Err(_) => CheckFault::NoMemory,
+            }),
+            Err(_) => Refusal::NoMemory,
         },
-        Fault::Above(quantity) => CheckFault::Limit { quantity },
-        Fault::NoMemory => CheckFault::NoMemory,
+        Refusal::Fault(NamedFault::Above(quantity)) => Refusal::Fault(CheckFault::Limit {
+            quantity,
+        }),
+        Refusal::NoMemory => Refusal::NoMemory,
     }
 }
 
@@ -328,7 +341,7 @@ fn placed(alloc: Global, cert: &Cert, line: usize, fault: Fault) -> CheckFault
 /// rule or limit that a line breaks. Each listed function needs a part, in any order; a part is
 /// checked in a bank of its own. Work is linear in the certificate beside what its obligations
 /// take, and in its parts times the listed functions.
-pub fn check(alloc: Global, listed: &[Listed<'_>], cert: &Cert) -> Result<(), CheckFault>
+pub fn check(alloc: Global, listed: &[Listed<'_>], cert: &Cert) -> Result<(), Refusal<CheckFault>>
     requires { AreLines (certificate_of cert.now) }
     ensures { IsVerdict listed.now cert.now result }
 {

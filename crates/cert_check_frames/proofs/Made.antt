@@ -7,7 +7,7 @@ use Rattle.term_core.specs.declared.term.Term.{Term as CodeTerm}
 use Rattle.term_core.specs.Trees.{term_of}
 use Rattle.term_bank.specs.Nodes.{tree_at, Holds}
 use Rattle.graph_core.specs.Graphs.{boxed_term}
-use Rattle.graph_core_spec.specs.TransitionSystem.{Mark}
+use Rattle.graph_core_spec.specs.declared.Mark.{Mark}
 use Rattle.proof_tree_spec.specs.Frames.{Frame, Start, Goal, Hold}
 use Rattle.proof_tree.specs.declared.frame.Premise.{Premise}
 use Rattle.proof_tree.specs.Frames as frames

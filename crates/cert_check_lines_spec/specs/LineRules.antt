@@ -9,7 +9,7 @@ use Rattle.clause_check_spec.specs.Log.{Step}
 use Rattle.clause_check_spec.specs.Step.{Follows, Refused, outcome}
 use Rattle.bit_blast_spec.specs.Goal.{cnf_of}
 use Rattle.discharge_spec.specs.Closing.{is_empty, is_truth}
-use Rattle.graph_core_spec.specs.TransitionSystem.{Mark}
+use Rattle.graph_core_spec.specs.declared.Mark.{Mark}
 use Rattle.proof_tree_spec.specs.declared.Counts.{Counts}
 use Rattle.proof_tree_spec.specs.declared.Nodes.{Nodes}
 use Rattle.proof_tree_spec.specs.declared.Cut.TheVariants.{Calls}
@@ -24,17 +24,17 @@ use Rattle.cert_text_spec.specs.declared.Symbol.{Symbol}
 use Rattle.cert_text_spec.specs.Lines as line
 use Rattle.cert_text_spec.specs.Lines.{Line}
 use Rattle.cert_check_spec.specs.Terms.{IsTermOf}
-use Rattle.cert_check_spec.specs.declared.Quantity.{Quantity}
-use Rattle.cert_check_spec.specs.declared.Quantity.TheVariants as quantity
+use Rattle.tv_limits.specs.declared.Quantity.{Quantity}
+use Rattle.tv_limits.specs.declared.Quantity.TheVariants as quantity
 use Rattle.tv_limits.specs.declared.TheConstants.{MAX_VISITS, MAX_TERMS, MAX_VARIABLES}
-use Rattle.cert_check_lines_spec.specs.declared.LineFault.{LineFault}
-use Rattle.cert_check_lines_spec.specs.declared.LineFault.TheVariants as fault
+use Rattle.cert_check_spec.specs.declared.RuleWord.{RuleWord}
+use Rattle.cert_check_spec.specs.declared.RuleWord.TheVariants as fault
 use Rattle.cert_check_lines_spec.specs.Sites.{Part, IsBinaryPoint, IsSourcePoint, ArePoints, Calling, ArePaired}
 use Rattle.cert_check_lines_spec.specs.Jobs.{Origin, opening, Draft, OfSplit, OfCall, path_of, Job, Prove, Relate, Close, InLog, reading, pair_of, landing_of}
 
 -- what is wrong at a line
 pub data Fault : Type 0 where
-  Breaks : LineFault → Fault
+  Breaks : RuleWord → Fault
   Above : Quantity → Fault
 
 -- ---- the parts of lines

@@ -3,7 +3,7 @@ use Rattle.std.specs.Prelude.{slice_index_or}
 use Rattle.std.proofs.Common.{◌≡◌, ◌∙◌, ℕ, ◌<◌, zero, suc, [], ◌∷◌, length, get_or, codes, refl, sym, ap, subst, arith}
 use Rattle.std.proofs.lemmas.List.Elements.{All-nil}
 use Rattle.cert_text_spec.specs.Lines.{Header, Function, End}
-use Rattle.cert_check_spec.specs.declared.RuleFault.TheVariants as fault
+use Rattle.cert_check_spec.specs.declared.RuleWord.TheVariants as fault
 use Rattle.cert_check_spec.specs.Verdict.{Listed, NotProof, IsFault, IsFree, Between, header, stranger, stack, missing, here, there}
 use Rattle.cert_check_spec.specs.Samples.{StrangerIsRefused, OtherStackIsRefused, MissingIsRefused}
 

@@ -1,7 +1,7 @@
 -- Certificates of one listed function, `f`, with their first faults.
 use Rattle.std.specs.Prelude.{◌≡◌, List, [], ◌∷◌, codes}
 use Rattle.cert_text_spec.specs.Lines.{Line, Header, Function, End}
-use Rattle.cert_check_spec.specs.declared.RuleFault.TheVariants as fault
+use Rattle.cert_check_spec.specs.declared.RuleWord.TheVariants as fault
 use Rattle.cert_check_spec.specs.Verdict.{Listed, NotProof, IsFault}
 
 -- a part of another one, at its line

@@ -14,10 +14,10 @@ use Rattle.cert_text_spec.specs.Lines.{Line, Header, Function, InlineBinary, Inl
 use Rattle.tv_limits.specs.declared.TheConstants.{MAX_VISITS}
 use Rattle.discharge_spec.specs.declared.GoalQuantity.TheVariants as above
 use Rattle.discharge_spec.specs.Closing.{Closes, IsLarge, Fails as Refuses, Unclosed, closing}
-use Rattle.cert_check_spec.specs.declared.RuleFault.{RuleFault}
-use Rattle.cert_check_spec.specs.declared.RuleFault.TheVariants as fault
-use Rattle.cert_check_spec.specs.declared.Quantity.{Quantity}
-use Rattle.cert_check_spec.specs.declared.Quantity.TheVariants as quantity
+use Rattle.cert_check_spec.specs.declared.RuleWord.{RuleWord}
+use Rattle.cert_check_spec.specs.declared.RuleWord.TheVariants as fault
+use Rattle.tv_limits.specs.declared.Quantity.{Quantity}
+use Rattle.tv_limits.specs.declared.Quantity.TheVariants as quantity
 use Rattle.cert_check_spec.specs.Terms.{IsTermOf}
 
 -- a listed function: its stack, the frame at its entry, the terms of variables there, and the fixed bytes
@@ -47,7 +47,7 @@ begun (Inside parts f jobs) = parts ++ f ∷ []
 
 -- what is wrong at a line: a rule is broken in the part of a function, or something is above its maximum
 pub data Fault : Type 0 where
-  NotProof : (function : List ℕ) → RuleFault → Fault
+  NotProof : (function : List ℕ) → RuleWord → Fault
   Limit : Quantity → Fault
 
 -- ---- parts

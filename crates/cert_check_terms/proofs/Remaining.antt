@@ -13,6 +13,8 @@ use Rattle.proof_tree.specs.Scope.{body_of}
 use Rattle.cert_check_terms.specs.Variables.{body_with}
 use Rattle.cert_check_terms.specs.Reading as spec
 use Rattle.cert_check_terms.specs.Reading.{run, step, finished, begun, line_of}
+use Rattle.attempt.specs.declared.refusal.Refusal.{Refusal}
+use Rattle.attempt.specs.declared.refusal.Refusal.TheVariants.{Fault, NoMemory}
 use Rattle.cert_check_terms.specs.declared.fault.TermFault.{TermFault}
 use Rattle.cert_check_terms.specs.declared.fault.TermFault.TheVariants as fault
 use Rattle.cert_check_terms.specs.declared.reading.Entry.{Entry}
@@ -42,11 +44,11 @@ module _ (s : Setting) (path : List ℕ) where
   one_more trees first r symbols i d now left within goes =
       left ∙ (at_drop_more (run s path r) symbols i d within ∙ one_symbol r (get_or symbols i d) (drop (i + 1) symbols) (Some (reading_of trees now)) goes.1)
 
-  pub one_fails : (trees : List Term) (first r : spec.Reading) (symbols : List Symbol) (i : ℕ) (d : Symbol) (now : Reading) (f : TermFault) → IsLeft first symbols r i → i < length symbols
+  pub one_fails : (trees : List Term) (first r : spec.Reading) (symbols : List Symbol) (i : ℕ) (d : Symbol) (now : Reading) (f : Refusal TermFault) → IsLeft first symbols r i → i < length symbols
       → Goes trees (step s path r (get_or symbols i d)) now (Err f) → Goes trees (run s path first symbols) now (Err f)
-  one_fails trees first r symbols i d now fault.Sort left within goes =
+  one_fails trees first r symbols i d now (Fault fault.Sort) left within goes =
       left ∙ (at_drop_more (run s path r) symbols i d within ∙ one_symbol r (get_or symbols i d) (drop (i + 1) symbols) None goes)
-  one_fails trees first r symbols i d now fault.NoMemory left within goes = tt
+  one_fails trees first r symbols i d now NoMemory left within goes = tt
 
   pub all_read : (trees : List Term) (first : spec.Reading) (symbols : List Symbol) (i : ℕ) (now : Reading) → IsLeft first symbols (reading_of trees now) i → length symbols ≤ i
       → AreInside (length trees) now.entries.items → Goes trees (run s path first symbols) now (Ok (tt {0}))
@@ -55,26 +57,26 @@ module _ (s : Setting) (path : List ℕ) where
 
   -- ---- lines
 
-  found_line : (symbols : List Symbol) (trees : List Term) (result : Result ℕ TermFault) → Finds trees (line_of s path symbols) result → IsRead s path symbols trees result
+  found_line : (symbols : List Symbol) (trees : List Term) (result : Result ℕ (Refusal TermFault)) → Finds trees (line_of s path symbols) result → IsRead s path symbols trees result
   found_line symbols trees (Ok id) finds =
       let is = line_spelled s path symbols (tree_at trees id) finds.1 in
       record { line = tree_at trees id; held = held trees id finds.0; spelled = is.is_term; is_line = is.is_line }
-  found_line symbols trees (Err fault.Sort) finds = λ apart line spelled fine.
+  found_line symbols trees (Err (Fault fault.Sort)) finds = λ apart line spelled fine.
       absurd (let found = line_read s path apart symbols line spelled fine in cc)
-  found_line symbols trees (Err fault.NoMemory) finds = tt
+  found_line symbols trees (Err NoMemory) finds = tt
 
-  pub line_found : (symbols : List Symbol) (before trees : List Term) (first now : Reading) (result : Result ℕ TermFault) → reading_of before first ≡ begun
+  pub line_found : (symbols : List Symbol) (before trees : List Term) (first now : Reading) (result : Result ℕ (Refusal TermFault)) → reading_of before first ≡ begun
       → Goes trees (run s path (reading_of before first) symbols) now (Ok (tt {0})) → Finds trees (finished (reading_of trees now)) result → IsRead s path symbols trees result
   line_found symbols before trees first now result empty goes finds =
       found_line symbols trees result
       (subst (λ (o : Option spec.Reading). Finds trees (option_and_then finished o) result)
       (sym (ap (λ (r : spec.Reading). run s path r symbols) (sym empty) ∙ goes.1)) finds)
 
-  pub line_missing : (symbols : List Symbol) (before trees : List Term) (first now : Reading) (f : TermFault) → reading_of before first ≡ begun
+  pub line_missing : (symbols : List Symbol) (before trees : List Term) (first now : Reading) (f : Refusal TermFault) → reading_of before first ≡ begun
       → Goes trees (run s path (reading_of before first) symbols) now (Err f) → IsRead s path symbols trees (Err f)
-  line_missing symbols before trees first now fault.Sort empty goes =
-      found_line symbols trees (Err fault.Sort) (ap (option_and_then finished) (ap (λ (r : spec.Reading). run s path r symbols) (sym empty) ∙ goes))
-  line_missing symbols before trees first now fault.NoMemory empty goes = tt
+  line_missing symbols before trees first now (Fault fault.Sort) empty goes =
+      found_line symbols trees (Err (Fault fault.Sort)) (ap (option_and_then finished) (ap (λ (r : spec.Reading). run s path r symbols) (sym empty) ∙ goes))
+  line_missing symbols before trees first now NoMemory empty goes = tt
 
 pub nothing_read : (trees : List Term) (r : Reading) → r.calls.items ≡ [] → r.entries.items ≡ [] → reading_of trees r ≡ begun
 nothing_read trees r calls entries =

@@ -7,6 +7,8 @@ use Rattle.term_bank.specs.Nodes.{tree_at, Extends}
 use Rattle.term_bank.proofs.Growth.{tree_at-front}
 use Rattle.cert_text_spec.specs.declared.Operator.{Operator}
 use Rattle.cert_check_terms.specs.Reading as spec
+use Rattle.attempt.specs.declared.refusal.Refusal.{Refusal}
+use Rattle.attempt.specs.declared.refusal.Refusal.TheVariants.{Fault, NoMemory}
 use Rattle.cert_check_terms.specs.declared.fault.TermFault.{TermFault}
 use Rattle.cert_check_terms.specs.declared.fault.TermFault.TheVariants as fault
 use Rattle.cert_check_terms.specs.declared.reading.Subterm.{Subterm}
@@ -87,36 +89,36 @@ module _ (before now : List Term) (extends : Extends before now) (entries : List
       ap (λ (below : List spec.Entry). spec.Whole (subterm_of now x) ∷ below) (sym (same_entries before now entries extends inside))
       ∙ (sym (stacked_last now [] entries (Whole x)) ∙ ap (entries_of now) (sym is))
 
-  pub pushed_next : (new : List Entry) (expected : Option spec.Sorted) (made : Result Subterm TermFault) (result : Result (Unit {0}) TermFault)
+  pub pushed_next : (new : List Entry) (expected : Option spec.Sorted) (made : Result Subterm (Refusal TermFault)) (result : Result (Unit {0}) (Refusal TermFault))
       → IsMade now expected made → IsPushedIf entries new made result → AreNext now (spec.pushed (entries_of before entries) expected) new result
   pushed_next new expected (Ok x) (Ok u) made is = (
     subst (AreInside (length now)) (sym is)
         (inside_pushed (length now) entries (Whole x) (inside_later (length before) (length now) entries (longer before now extends) inside) made.0),
     ap (spec.pushed (entries_of before entries)) made.1 ∙ ap Some (on_top_now new x is),
   )
-  pushed_next new expected (Ok x) (Err fault.Sort) made is = absurd is
-  pushed_next new expected (Ok x) (Err fault.NoMemory) made is = tt
-  pushed_next new expected (Err fault.Sort) result made is =
+  pushed_next new expected (Ok x) (Err (Fault fault.Sort)) made is = absurd is
+  pushed_next new expected (Ok x) (Err NoMemory) made is = tt
+  pushed_next new expected (Err (Fault fault.Sort)) result made is =
       subst (AreNext now (spec.pushed (entries_of before entries) expected) new) (sym is) (ap (spec.pushed (entries_of before entries)) made)
-  pushed_next new expected (Err fault.NoMemory) result made is = subst (AreNext now (spec.pushed (entries_of before entries) expected) new) (sym is) tt
+  pushed_next new expected (Err NoMemory) result made is = subst (AreNext now (spec.pushed (entries_of before entries) expected) new) (sym is) tt
 
-pub bracket_next : (trees : List Term) (entries new : List Entry) (o : Operator) (result : Result (Unit {0}) TermFault) → AreInside (length trees) entries
+pub bracket_next : (trees : List Term) (entries new : List Entry) (o : Operator) (result : Result (Unit {0}) (Refusal TermFault)) → AreInside (length trees) entries
     → IsPushed entries new (Bracket o) result → AreNext trees (Some (spec.Bracket o ∷ entries_of trees entries)) new result
 bracket_next trees entries new o (Ok u) inside is = (
   subst (AreInside (length trees)) (sym is) (inside_pushed (length trees) entries (Bracket o) inside tt),
   ap Some (sym (stacked_last trees [] entries (Bracket o)) ∙ ap (entries_of trees) (sym is)),
 )
-bracket_next trees entries new o (Err fault.Sort) inside is = absurd is
-bracket_next trees entries new o (Err fault.NoMemory) inside is = tt
+bracket_next trees entries new o (Err (Fault fault.Sort)) inside is = absurd is
+bracket_next trees entries new o (Err NoMemory) inside is = tt
 
 -- ---- with calls
 
-pub goes_on : (trees : List Term) (calls : List ℕ) (expected : Option (List spec.Entry)) (r : Reading) (result : Result (Unit {0}) TermFault) → r.calls.items ≡ calls
+pub goes_on : (trees : List Term) (calls : List ℕ) (expected : Option (List spec.Entry)) (r : Reading) (result : Result (Unit {0}) (Refusal TermFault)) → r.calls.items ≡ calls
     → AreNext trees expected r.entries.items result → Goes trees (option_map (spec.with_calls calls) expected) r result
 goes_on trees calls expected r (Ok u) same next =
     (next.0, ap (option_map (spec.with_calls calls)) next.1 ∙ ap (λ (c : List ℕ). Some (spec.with_calls c (entries_of trees r.entries.items))) (sym same))
-goes_on trees calls expected r (Err fault.Sort) same next = ap (option_map (spec.with_calls calls)) next
-goes_on trees calls expected r (Err fault.NoMemory) same next = tt
+goes_on trees calls expected r (Err (Fault fault.Sort)) same next = ap (option_map (spec.with_calls calls)) next
+goes_on trees calls expected r (Err NoMemory) same next = tt
 
 -- ---- brackets
 
@@ -182,21 +184,21 @@ none_closes first (e ∷ old) xs so_far none trees inside = absurd (omega (arith
 
 -- ---- closing brackets
 
-pub closed_next : (before now : List Term) → Extends before now → (first entries new : List Entry) (xs : List Subterm) (o : Operator) (made : Result Subterm TermFault)
-    (result : Result (Unit {0}) TermFault) → IsTaken before (spec.closing (entries_of before first) []) entries xs o
+pub closed_next : (before now : List Term) → Extends before now → (first entries new : List Entry) (xs : List Subterm) (o : Operator) (made : Result Subterm (Refusal TermFault))
+    (result : Result (Unit {0}) (Refusal TermFault)) → IsTaken before (spec.closing (entries_of before first) []) entries xs o
     → IsMade now (spec.around o (arguments_of before xs)) made → IsPushedIf entries new made result → AreNext now (spec.closed_by (entries_of before first)) new result
 closed_next before now extends first entries new xs o made result taken is pushed =
     subst (λ (c : Option spec.Closing). AreNext now (option_and_then spec.closed c) new result) (sym taken.is)
     (pushed_next before now extends entries taken.entries_inside new (spec.around o (arguments_of before xs)) made result is pushed)
 
-pub not_closed : (trees : List Term) (expected : Option spec.Closing) (entries new : List Entry) (xs : List Subterm) (f : TermFault) → Takes trees expected entries xs (Err f)
+pub not_closed : (trees : List Term) (expected : Option spec.Closing) (entries new : List Entry) (xs : List Subterm) (f : Refusal TermFault) → Takes trees expected entries xs (Err f)
     → AreNext trees (option_and_then spec.closed expected) new (Err f)
-not_closed trees expected entries new xs fault.Sort takes = ap (option_and_then spec.closed) takes
-not_closed trees expected entries new xs fault.NoMemory takes = tt
+not_closed trees expected entries new xs (Fault fault.Sort) takes = ap (option_and_then spec.closed) takes
+not_closed trees expected entries new xs NoMemory takes = tt
 
 -- ---- with calls, or none
 
-pub other_on : (trees : List Term) (b : Bool) (calls : List ℕ) (expected : Option (List spec.Entry)) (r : Reading) (result : Result (Unit {0}) TermFault) → b ≡ true
+pub other_on : (trees : List Term) (b : Bool) (calls : List ℕ) (expected : Option (List spec.Entry)) (r : Reading) (result : Result (Unit {0}) (Refusal TermFault)) → b ≡ true
     → r.calls.items ≡ calls → AreNext trees expected r.entries.items result → Goes trees (if b then option_map (spec.with_calls calls) expected else None) r result
 other_on trees b calls expected r result is same next =
     subst (λ (t : Bool). Goes trees (if t then option_map (spec.with_calls calls) expected else None) r result) (sym is) (goes_on trees calls expected r result same next)

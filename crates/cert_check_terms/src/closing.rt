@@ -11,6 +11,7 @@ ghost use Rattle.cert_check_terms.specs.Outcomes.{AreNext, IsMade, Takes};
 use crate::fault::TermFault;
 use crate::operators::{binary, is_choose, is_join, unary};
 use crate::reading::{Entry, Subterm, place, push_made};
+use attempt::Refusal;
 use cert_text_spec::Operator;
 use term_bank::{Bank, TermNode};
 use term_core::{
@@ -23,7 +24,7 @@ fn around_one(
     bank: &mut Bank,
     operator: Operator,
     arguments: &[Subterm],
-) -> Result<Subterm, TermFault>
+) -> Result<Subterm, Refusal<TermFault>>
     requires count { length arguments.now ≡ 1 }
     requires inside { AreSubtermsInside (length bank.old) arguments.now }
     ensures made { IsMade bank.new (spec.around operator (arguments_of bank.old arguments.now))
@@ -37,7 +38,7 @@ fn around_one(
             TermNode::Unary(unary, a.id),
             sort_of_unary(unary, a.sort),
         ),
-        None => Err(TermFault::Sort),
+        None => Err(Refusal::Fault(TermFault::Sort)),
     }
 }
 
@@ -46,7 +47,7 @@ fn around_two(
     bank: &mut Bank,
     operator: Operator,
     arguments: &[Subterm],
-) -> Result<Subterm, TermFault>
+) -> Result<Subterm, Refusal<TermFault>>
     requires count { length arguments.now ≡ 2 }
     requires inside { AreSubtermsInside (length bank.old) arguments.now }
     ensures made { IsMade bank.new (spec.around operator (arguments_of bank.old arguments.now))
@@ -59,7 +60,7 @@ fn around_two(
             let sort = sort_of_binary(binary, a.sort, b.sort);
             place(bank, TermNode::Binary(binary, a.id, b.id), sort)
         }
-        None => Err(TermFault::Sort),
+        None => Err(Refusal::Fault(TermFault::Sort)),
     }
 }
 
@@ -68,7 +69,7 @@ fn around_three(
     bank: &mut Bank,
     operator: Operator,
     arguments: &[Subterm],
-) -> Result<Subterm, TermFault>
+) -> Result<Subterm, Refusal<TermFault>>
     requires count { length arguments.now ≡ 3 }
     requires inside { AreSubtermsInside (length bank.old) arguments.now }
     ensures made { IsMade bank.new (spec.around operator (arguments_of bank.old arguments.now))
@@ -81,7 +82,7 @@ fn around_three(
         let node = TermNode::Ternary(TernaryOperator::Choose, a.id, b.id, c.id);
         return place(bank, node, sort);
     }
-    Err(TermFault::Sort)
+    Err(Refusal::Fault(TermFault::Sort))
 }
 
 // Around four.
@@ -89,7 +90,7 @@ fn around_four(
     bank: &mut Bank,
     operator: Operator,
     arguments: &[Subterm],
-) -> Result<Subterm, TermFault>
+) -> Result<Subterm, Refusal<TermFault>>
     requires count { length arguments.now ≡ 4 }
     requires inside { AreSubtermsInside (length bank.old) arguments.now }
     ensures made { IsMade bank.new (spec.around operator (arguments_of bank.old arguments.now))
@@ -103,7 +104,7 @@ fn around_four(
         let node = TermNode::Quaternary(QuaternaryOperator::Join, a.id, b.id, c.id, d.id);
         return place(bank, node, sort);
     }
-    Err(TermFault::Sort)
+    Err(Refusal::Fault(TermFault::Sort))
 }
 
 // Around eight.
@@ -111,7 +112,7 @@ fn around_eight(
     bank: &mut Bank,
     operator: Operator,
     arguments: &[Subterm],
-) -> Result<Subterm, TermFault>
+) -> Result<Subterm, Refusal<TermFault>>
     requires count { length arguments.now ≡ 8 }
     requires inside { AreSubtermsInside (length bank.old) arguments.now }
     ensures made { IsMade bank.new (spec.around operator (arguments_of bank.old arguments.now))
@@ -136,11 +137,15 @@ fn around_eight(
         let node = TermNode::Octonary(a.id, b.id, c.id, d.id, e.id, f.id, g.id, h.id);
         return place(bank, node, sort);
     }
-    Err(TermFault::Sort)
+    Err(Refusal::Fault(TermFault::Sort))
 }
 
 // An operator around its arguments, the last of which comes first.
-fn around(bank: &mut Bank, operator: Operator, arguments: &[Subterm]) -> Result<Subterm, TermFault>
+fn around(
+    bank: &mut Bank,
+    operator: Operator,
+    arguments: &[Subterm],
+) -> Result<Subterm, Refusal<TermFault>>
     requires { AreSubtermsInside (length bank.old) arguments.now }
     ensures made { IsMade bank.new (spec.around operator (arguments_of bank.old arguments.now))
         result }
@@ -162,14 +167,14 @@ fn around(bank: &mut Bank, operator: Operator, arguments: &[Subterm]) -> Result<
     if count == 8 {
         return around_eight(bank, operator, arguments);
     }
-    Err(TermFault::Sort)
+    Err(Refusal::Fault(TermFault::Sort))
 }
 
 // Takes the arguments that a bracket closes, and their operator.
 fn take_arguments(
     entries: &mut Vec<Entry>,
     arguments: &mut Vec<Subterm>,
-) -> Result<Operator, TermFault>
+) -> Result<Operator, Refusal<TermFault>>
     ensures { (trees : List Term) → AreInside (length trees) entries.old.items
         → Takes trees (spec.closing (entries_of trees entries.old.items) []) entries.new.items
         arguments.new.items result }
@@ -180,11 +185,11 @@ fn take_arguments(
             Entry::Bracket(operator) => return Ok(operator),
             Entry::Whole(subterm) => match arguments.push(subterm) {
                 Ok(()) => {}
-                Err(_) => return Err(TermFault::NoMemory),
+                Err(_) => return Err(Refusal::NoMemory),
             },
         }
     }
-    Err(TermFault::Sort)
+    Err(Refusal::Fault(TermFault::Sort))
 }
 
 /// Closes the innermost operator that is open.
@@ -192,7 +197,7 @@ pub(crate) fn close(
     bank: &mut Bank,
     entries: &mut Vec<Entry>,
     arguments: &mut Vec<Subterm>,
-) -> Result<(), TermFault>
+) -> Result<(), Refusal<TermFault>>
     requires { AreInside (length bank.old) entries.old.items }
     ensures next { AreNext bank.new (spec.closed_by (entries_of bank.old entries.old.items))
         entries.new.items result }

@@ -5,6 +5,4 @@
 pub enum TermFault {
     /// They spell none; or it is ill-sorted, no truth value, or speaks of a variable out of scope.
     Sort,
-    /// Out of memory.
-    NoMemory,
 }

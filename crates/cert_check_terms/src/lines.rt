@@ -14,6 +14,7 @@ use crate::closing::close;
 use crate::fault::TermFault;
 use crate::reading::{Entry, Reading, Subterm, place, push, push_made};
 use crate::variables::{is_set, local, own_variable};
+use attempt::Refusal;
 use cert_text_spec::{Operator, Symbol};
 use proof_tree::Setting;
 use std::alloc::Global;
@@ -22,7 +23,11 @@ use term_core::sort_of_atom;
 use term_core_spec::{Atom, Sort, Variable};
 
 // A term without arguments.
-fn read_atom(bank: &mut Bank, entries: &mut Vec<Entry>, atom: Atom) -> Result<(), TermFault>
+fn read_atom(
+    bank: &mut Bank,
+    entries: &mut Vec<Entry>,
+    atom: Atom,
+) -> Result<(), Refusal<TermFault>>
     requires { AreInside (length bank.old) entries.old.items }
     ensures next { AreNext bank.new (spec.pushed (entries_of bank.old entries.old.items) (spec.leaf
         atom)) entries.new.items result }
@@ -37,7 +42,7 @@ fn read_variable(
     bank: &mut Bank,
     entries: &mut Vec<Entry>,
     variable: Option<Variable>,
-) -> Result<(), TermFault>
+) -> Result<(), Refusal<TermFault>>
     requires { AreInside (length bank.old) entries.old.items }
     ensures next { AreNext bank.new (spec.pushed_variable (entries_of bank.old entries.old.items)
         variable) entries.new.items result }
@@ -45,12 +50,12 @@ fn read_variable(
 {
     match variable {
         Some(variable) => read_atom(bank, entries, Atom::Open(variable)),
-        None => Err(TermFault::Sort),
+        None => Err(Refusal::Fault(TermFault::Sort)),
     }
 }
 
 // The bracket of an operator.
-fn open_bracket(entries: &mut Vec<Entry>, operator: Operator) -> Result<(), TermFault>
+fn open_bracket(entries: &mut Vec<Entry>, operator: Operator) -> Result<(), Refusal<TermFault>>
     ensures { (trees : List Term) → AreInside (length trees) entries.old.items
         → AreNext trees (Some (spec.Bracket operator ∷ entries_of trees entries.old.items))
         entries.new.items result }
@@ -65,7 +70,7 @@ fn read_plain(
     entries: &mut Vec<Entry>,
     arguments: &mut Vec<Subterm>,
     symbol: Symbol,
-) -> Result<(), TermFault>
+) -> Result<(), Refusal<TermFault>>
     requires { AreInside (length bank.old) entries.old.items }
     ensures next { AreNext bank.new (spec.plain (setting_of setting.now) (entries_of bank.old
         entries.old.items) symbol) entries.new.items result }
@@ -81,14 +86,14 @@ fn read_plain(
 }
 
 // The number of a call before a variable.
-fn read_call(reading: &mut Reading, call: u32) -> Result<(), TermFault>
+fn read_call(reading: &mut Reading, call: u32) -> Result<(), Refusal<TermFault>>
     ensures { (trees : List Term) → AreInside (length trees) reading.old.entries.items
         → Goes trees (Some (spec.with_calls (reading.old.calls.items ++ call ∷ []) (entries_of trees
         reading.old.entries.items))) reading.new result }
 {
     match reading.calls.push(call) {
         Ok(()) => Ok(()),
-        Err(_) => Err(TermFault::NoMemory),
+        Err(_) => Err(Refusal::NoMemory),
     }
 }
 
@@ -97,7 +102,7 @@ fn read_name(
     bank: &mut Bank,
     reading: &mut Reading,
     variable: Option<Variable>,
-) -> Result<(), TermFault>
+) -> Result<(), Refusal<TermFault>>
     requires { AreInside (length bank.old) reading.old.entries.items }
     ensures goes { Goes bank.new (spec.named (entries_of bank.old reading.old.entries.items)
         variable) reading.new result }
@@ -113,7 +118,7 @@ fn read_other(
     bank: &mut Bank,
     reading: &mut Reading,
     symbol: Symbol,
-) -> Result<(), TermFault>
+) -> Result<(), Refusal<TermFault>>
     requires { AreInside (length bank.old) reading.old.entries.items }
     ensures goes { Goes bank.new (spec.other (setting_of setting.now) (reading_of bank.old
         reading.old) symbol) reading.new result }
@@ -128,7 +133,7 @@ fn read_other(
             symbol,
         );
     }
-    Err(TermFault::Sort)
+    Err(Refusal::Fault(TermFault::Sort))
 }
 
 // A symbol.
@@ -138,7 +143,7 @@ fn read_symbol(
     bank: &mut Bank,
     reading: &mut Reading,
     symbol: Symbol,
-) -> Result<(), TermFault>
+) -> Result<(), Refusal<TermFault>>
     requires { AreInside (length bank.old) reading.old.entries.items }
     ensures goes { Goes bank.new (spec.step (setting_of setting.now) path.now (reading_of bank.old
         reading.old) symbol) reading.new result }
@@ -165,7 +170,7 @@ fn read_symbols(
     symbols: &[Symbol],
     bank: &mut Bank,
     reading: &mut Reading,
-) -> Result<(), TermFault>
+) -> Result<(), Refusal<TermFault>>
     requires { AreInside (length bank.old) reading.old.entries.items }
     ensures goes { Goes bank.new (spec.run (setting_of setting.now) path.now (reading_of bank.old
         reading.old) symbols.now) reading.new result }
@@ -181,29 +186,29 @@ fn read_symbols(
 }
 
 // The index of a subterm, if it is a truth value.
-fn truth(subterm: Subterm) -> Result<TermId, TermFault>
+fn truth(subterm: Subterm) -> Result<TermId, Refusal<TermFault>>
     ensures { (trees : List Term) → subterm.id < length trees → Finds trees (spec.only (spec.Whole
         (subterm_of trees subterm) ∷ [])) result }
 {
     match subterm.sort {
         Sort::Truth => Ok(subterm.id),
-        Sort::Word(_) | Sort::Memory => Err(TermFault::Sort),
+        Sort::Word(_) | Sort::Memory => Err(Refusal::Fault(TermFault::Sort)),
     }
 }
 
 // An entry, if it is a subterm that is a truth value.
-fn whole(entry: Entry) -> Result<TermId, TermFault>
+fn whole(entry: Entry) -> Result<TermId, Refusal<TermFault>>
     ensures { (trees : List Term) → IsInside (length trees) entry → Finds trees (spec.only (entry_of
         trees entry ∷ [])) result }
 {
     match entry {
         Entry::Whole(subterm) => truth(subterm),
-        Entry::Bracket(_) => Err(TermFault::Sort),
+        Entry::Bracket(_) => Err(Refusal::Fault(TermFault::Sort)),
     }
 }
 
 // The only entry, if it is a truth value.
-fn only(entries: &[Entry]) -> Result<TermId, TermFault>
+fn only(entries: &[Entry]) -> Result<TermId, Refusal<TermFault>>
     ensures { (trees : List Term) → AreInside (length trees) entries.now → Finds trees (spec.only
         (entries_of trees entries.now)) result }
 {
@@ -211,18 +216,18 @@ fn only(entries: &[Entry]) -> Result<TermId, TermFault>
     if count == 1 {
         return whole(entries[0]);
     }
-    Err(TermFault::Sort)
+    Err(Refusal::Fault(TermFault::Sort))
 }
 
 // The line that has been read, if no calls are left.
-fn finish(reading: &Reading) -> Result<TermId, TermFault>
+fn finish(reading: &Reading) -> Result<TermId, Refusal<TermFault>>
     ensures { (trees : List Term) → AreInside (length trees) reading.now.entries.items
         → Finds trees (spec.finished (reading_of trees reading.now)) result }
 {
     if reading.calls.is_empty() {
         return only(reading.entries.as_slice());
     }
-    Err(TermFault::Sort)
+    Err(Refusal::Fault(TermFault::Sort))
 }
 
 /// The term of a line in the source body of a path: its index in the bank, to which it is added
@@ -233,7 +238,7 @@ pub fn read_line(
     path: &[u32],
     symbols: &[Symbol],
     bank: &mut Bank,
-) -> Result<TermId, TermFault>
+) -> Result<TermId, Refusal<TermFault>>
     ensures read { IsRead (setting_of setting.now) path.now symbols.now bank.new result }
     ensures extends { Extends bank.old bank.new }
 {

@@ -6,6 +6,7 @@ ghost use Rattle.cert_check_terms.specs.Reading as spec;
 ghost use Rattle.cert_check_terms.specs.Outcomes.{IsMade, IsPushed, IsPushedIf};
 
 use crate::fault::TermFault;
+use attempt::Refusal;
 use cert_text_spec::Operator;
 use term_bank::{Bank, TermId, TermNode};
 use term_core_spec::Sort;
@@ -44,36 +45,36 @@ pub(crate) fn place(
     bank: &mut Bank,
     node: TermNode,
     sort: Option<Sort>,
-) -> Result<Subterm, TermFault>
+) -> Result<Subterm, Refusal<TermFault>>
     requires { IsNode (length bank.old) node }
     ensures made { IsMade bank.new (spec.sorted (build bank.old node) sort) result }
     ensures extends { Extends bank.old bank.new }
 {
     let sort = match sort {
         Some(sort) => sort,
-        None => return Err(TermFault::Sort),
+        None => return Err(Refusal::Fault(TermFault::Sort)),
     };
     match bank.add(node) {
         Ok(id) => Ok(Subterm { id, sort }),
-        Err(_) => Err(TermFault::NoMemory),
+        Err(_) => Err(Refusal::NoMemory),
     }
 }
 
 /// Puts an entry on top.
-pub(crate) fn push(entries: &mut Vec<Entry>, entry: Entry) -> Result<(), TermFault>
+pub(crate) fn push(entries: &mut Vec<Entry>, entry: Entry) -> Result<(), Refusal<TermFault>>
     ensures { IsPushed entries.old.items entries.new.items entry result }
 {
     match entries.push(entry) {
         Ok(()) => Ok(()),
-        Err(_) => Err(TermFault::NoMemory),
+        Err(_) => Err(Refusal::NoMemory),
     }
 }
 
 /// Puts a subterm on top, if one was made.
 pub(crate) fn push_made(
     entries: &mut Vec<Entry>,
-    made: Result<Subterm, TermFault>,
-) -> Result<(), TermFault>
+    made: Result<Subterm, Refusal<TermFault>>,
+) -> Result<(), Refusal<TermFault>>
     ensures { IsPushedIf entries.old.items entries.new.items made result }
 {
     match made {

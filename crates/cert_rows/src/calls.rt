@@ -15,7 +15,7 @@ ghost use Rattle.sim_calls.specs.Sites.{AreWithin};
 
 use crate::settings::setting;
 use crate::words::{put_terms, term, variable};
-use attempt::attempt;
+use attempt::{Refusal, attempt};
 use c_types_spec::Scalar;
 use graph_core::{Binding, Graph, GraphRun, Next, Node};
 use proof_tree::{Frame, Reachable, Setting, Start};
@@ -237,11 +237,11 @@ fn put_obligations(
     let mut bank = Bank::new(alloc);
     match obligations(alloc, &mut bank, setup, calls, callee, lines) {
         Ok(terms) => put_terms(&bank, terms.as_slice(), out),
-        Err(CallFault::Sort(index)) => {
+        Err(Refusal::Fault(CallFault::Sort(index))) => {
             out.put("sort ");
             out.show(&index);
         }
-        Err(CallFault::NoMemory) => out.fail(),
+        Err(Refusal::NoMemory) => out.fail(),
     }
 }
 

@@ -16,7 +16,8 @@ mod terms;
 mod texts;
 mod words;
 
-use cert_text::{Cert, ReadError, read, write};
+use attempt::Refusal;
+use cert_text::{Cert, ReadFault, read, write};
 use row_io::{Out, input, output, split, split_at};
 use std::alloc::Global;
 use std::io;
@@ -48,8 +49,8 @@ fn put_outcome(alloc: Global, row: &str, out: &mut Out) {
     }
     match read(alloc, text.as_slice()) {
         Ok(cert) => put_cert(alloc, text.as_slice(), &cert, out),
-        Err(ReadError::Refused(offset)) => out.put_at("refused", offset),
-        Err(ReadError::NoMemory) => out.fail(),
+        Err(Refusal::Fault(ReadFault::Refused(offset))) => out.put_at("refused", offset),
+        Err(Refusal::NoMemory) => out.fail(),
     }
 }
 

@@ -5,9 +5,9 @@
 //! or that it is no line; or the offset at which the certificate is refused.
 
 use crate::settings;
-use attempt::attempt;
+use attempt::{Refusal, attempt};
 use cert_check_terms::{TermFault, read_line};
-use cert_text::{Cert, ReadError, read};
+use cert_text::{Cert, ReadFault, read};
 use cert_text_parse::Line;
 use cert_text_spec::Symbol;
 use proof_tree::Setting;
@@ -32,8 +32,8 @@ fn put_line(alloc: Global, setting: &Setting, path: &[u32], symbols: &[Symbol], 
             out.show(&id);
             put_nodes(&bank, out);
         }
-        Err(TermFault::Sort) => out.put("no line"),
-        Err(TermFault::NoMemory) => out.fail(),
+        Err(Refusal::Fault(TermFault::Sort)) => out.put("no line"),
+        Err(Refusal::NoMemory) => out.fail(),
     }
 }
 
@@ -50,8 +50,8 @@ fn put_tests(alloc: Global, setting: &Setting, path: &[u32], cert: &Cert, out: &
 fn put_text(alloc: Global, setting: &Setting, path: &[u32], text: &[u8], out: &mut Out) {
     match read(alloc, text) {
         Ok(cert) => put_tests(alloc, setting, path, &cert, out),
-        Err(ReadError::Refused(offset)) => out.put_at("refused", offset),
-        Err(ReadError::NoMemory) => out.fail(),
+        Err(Refusal::Fault(ReadFault::Refused(offset))) => out.put_at("refused", offset),
+        Err(Refusal::NoMemory) => out.fail(),
     }
 }
 

@@ -14,8 +14,10 @@ use Rattle.decompile_laws.proofs.Reached.{calls_function, jumps_inside}
 use Rattle.decompile_laws.specs.Layout.{numbers_by}
 use Rattle.decompile.specs.Answer.{first_in, number_in}
 use Rattle.decompile.specs.Errors.{IsGraphError}
-use Rattle.decompile.specs.declared.error.GraphError.{GraphError}
-use Rattle.decompile.specs.declared.error.GraphError.TheVariants.{Fault, Unlisted, Large, NoMemory}
+use Rattle.attempt.specs.declared.refusal.Refusal.{Refusal}
+use Rattle.attempt.specs.declared.refusal.Refusal.TheVariants.{Fault, NoMemory}
+use Rattle.decompile.specs.declared.error.GraphFault.{GraphFault}
+use Rattle.decompile.specs.declared.error.GraphFault.TheVariants.{Code, Unlisted, Large}
 use Rattle.c_types_spec.specs.Core.{Typed}
 use Rattle.pair_setup_spec.specs.Nodes.{HasLargeGraph, in_code}
 use Rattle.pair_setup_spec.specs.Outcome as outcome
@@ -102,11 +104,11 @@ module _ (image : Image) (unit : Typed) (list : List (List ℕ)) (pairs : outcom
 -- ---- what decompilation answers
 
 -- it lacks memory alone
-pub only_memory : (image : Image) (entry : ℕ) (entries : List ℕ) (error : GraphError) → IsSound image entries entry
+pub only_memory : (image : Image) (entry : ℕ) (entries : List ℕ) (error : Refusal GraphFault) → IsSound image entries entry
     → IsGraphError image entry entries (2 ^ 64 - 1) error → error ≡ NoMemory
-only_memory image entry entries (Fault fault) sound is = absurd (sound.no_fault is.size is.size_is fault.kind fault.address is.first.fault)
-only_memory image entry entries (Unlisted address callee) sound is = absurd (is.missing (sound.closed is.size address callee is.size_is is.calls))
-only_memory image entry entries (Large count) sound is =
+only_memory image entry entries (Fault (Code fault)) sound is = absurd (sound.no_fault is.size is.size_is fault.kind fault.address is.first.fault)
+only_memory image entry entries (Fault (Unlisted address callee)) sound is = absurd (is.missing (sound.closed is.size address callee is.size_is is.calls))
+only_memory image entry entries (Fault (Large count)) sound is =
     let graph = is.graph_is in
     absurd (sound.small (record {
       size = graph.size;

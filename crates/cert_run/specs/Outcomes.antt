@@ -2,11 +2,12 @@
 use Rattle.std.specs.Prelude.{ℕ, List, Err}
 use Rattle.cert_text_spec.specs.Certificates.{IsCertificate}
 use Rattle.cert_text.specs.declared.certificates.Cert.{Cert}
-use Rattle.cert_text.specs.declared.certificates.ReadError.{ReadError}
+use Rattle.attempt.specs.declared.refusal.Refusal.{Refusal}
+use Rattle.cert_text.specs.declared.certificates.ReadFault.{ReadFault}
+use Rattle.cert_check.specs.declared.fault.CheckFault.{CheckFault}
 use Rattle.cert_text.specs.Certificates.{certificate_of, IsRead}
 use Rattle.cert_check_frames.specs.declared.listed.Listed.{Listed}
 use Rattle.cert_check_frames.specs.Listed.{AreListed}
-use Rattle.cert_check.specs.declared.fault.CheckFault.{CheckFault}
 use Rattle.cert_check.specs.Outcomes.{IsVerdictOf}
 use Rattle.cert_check_spec.specs.Verdict as spec
 use Rattle.cert_run_spec.specs.Verdict as verdict
@@ -29,11 +30,11 @@ abbrev pub IsOutcomeOn : List Listed → Cert → Outcome → Type 0
 IsOutcomeOn codes cert o = (bytes : List ℕ) → IsCertificate bytes (certificate_of cert) → IsOutcomeOf codes bytes o
 
 -- where the check of a certificate has this fault
-abbrev pub IsFaultOf : List Listed → Cert → CheckFault → Outcome → Type 0
+abbrev pub IsFaultOf : List Listed → Cert → Refusal CheckFault → Outcome → Type 0
 IsFaultOf codes cert fault o =
     (bytes : List ℕ) → IsCertificate bytes (certificate_of cert) → (listed : List spec.Listed) → AreListed codes listed → IsVerdictOf codes cert listed (Err fault)
     → IsOutcome listed bytes (outcome_of o)
 
 -- where reading has this error
-abbrev pub IsUnreadOf : ReadError → Outcome → Type 0
+abbrev pub IsUnreadOf : Refusal ReadFault → Outcome → Type 0
 IsUnreadOf error o = (bytes : List ℕ) → IsRead bytes (Err error) → (listed : List spec.Listed) → IsOutcome listed bytes (outcome_of o)

@@ -2,25 +2,25 @@
 
 ghost use Rattle.std.specs.Prelude.{◌≡◌, [], length, All, IfOk, OnOk};
 ghost use Rattle.std.specs.List.Sorted.{IsStrictlyIncreasing};
-ghost use Rattle.decompile.specs.declared.error.GraphError.TheVariants.{NoMemory};
+ghost use Rattle.attempt.specs.declared.refusal.Refusal.TheVariants.{NoMemory};
 ghost use Rattle.graph_core.specs.Graphs.{graph_of, graphs_of};
 ghost use Rattle.cert_run.specs.Made.{AreCodeOf, IsCodeOf, IsSound};
 
-use attempt::attempt;
-use decompile::{GraphError, decompile};
+use attempt::{Refusal, attempt};
+use decompile::{GraphFault, decompile};
 use elf_read::Image;
 use graph_core::Graph;
 use std::alloc::{AllocError, Global};
 
 /// Out of memory, which is all that is wrong.
-fn out_of_memory(error: GraphError) -> AllocError
+fn out_of_memory(error: Refusal<GraphFault>) -> AllocError
     requires { error ≡ NoMemory }
 {
     match error {
-        GraphError::NoMemory => AllocError,
-        GraphError::Fault(_) => unreachable!(),
-        GraphError::Unlisted { .. } => unreachable!(),
-        GraphError::Large(_) => unreachable!(),
+        Refusal::NoMemory => AllocError,
+        Refusal::Fault(GraphFault::Code(_)) => unreachable!(),
+        Refusal::Fault(GraphFault::Unlisted { .. }) => unreachable!(),
+        Refusal::Fault(GraphFault::Large(_)) => unreachable!(),
     }
 }
 

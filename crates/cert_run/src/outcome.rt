@@ -7,13 +7,14 @@ ghost use Rattle.cert_run_spec.specs.Verdict as spec;
 ghost use Rattle.cert_run.specs.Outcomes.{IsFaultOf, IsOutcomeOf, IsOutcomeOn, IsUnreadOf};
 ghost use Rattle.cert_run.specs.Outcomes.{outcome_of};
 
-use attempt::attempt;
+use attempt::{Refusal, attempt};
 use cert_check::{CheckFault, check, name};
 use cert_check_frames::Listed;
-use cert_check_spec::{Quantity, RuleFault};
-use cert_text::{Cert, ReadError, read};
+use cert_check_spec::RuleWord;
+use cert_text::{Cert, ReadFault, read};
 use std::alloc::{AllocError, Global};
 use tv_base::Bytes;
+use tv_limits::Quantity;
 
 /// The verdict on the bytes of a certificate.
 #[derive(Drop)]
@@ -27,7 +28,7 @@ pub enum Outcome {
         /// where the line begins, in bytes
         offset: usize,
         /// the rule
-        rule: RuleFault,
+        rule: RuleWord,
     },
     /// A quantity is above its maximum.
     Above(Quantity),
@@ -36,7 +37,7 @@ pub enum Outcome {
 }
 
 // A line breaks a rule in the part of the function of this name.
-fn broken(alloc: Global, name: &[u8], offset: usize, rule: RuleFault) -> Result<Outcome, AllocError>
+fn broken(alloc: Global, name: &[u8], offset: usize, rule: RuleWord) -> Result<Outcome, AllocError>
     ensures { IfOk result (λ o. outcome_of o ≡ spec.Broken name.now offset rule) }
 {
     let function = attempt!(Bytes::copied(alloc, name));
@@ -52,21 +53,23 @@ fn faulty(
     alloc: Global,
     listed: &[Listed<'_>],
     cert: &Cert,
-    fault: CheckFault,
+    fault: Refusal<CheckFault>,
 ) -> Result<Outcome, AllocError>
     ensures { IfOk result (IsFaultOf listed.now cert.now fault) }
 {
     match fault {
-        CheckFault::NotProof {
-            function,
-            offset,
-            rule,
-        } => match name(listed, cert, function) {
+        Refusal::Fault(
+            CheckFault::NotProof {
+                function,
+                offset,
+                rule,
+            },
+        ) => match name(listed, cert, function) {
             Some(name) => broken(alloc, name, offset, rule),
             None => broken(alloc, b"", offset, rule),
         },
-        CheckFault::Limit { quantity } => Ok(Outcome::Above(quantity)),
-        CheckFault::NoMemory => Err(AllocError),
+        Refusal::Fault(CheckFault::Limit { quantity }) => Ok(Outcome::Above(quantity)),
+        Refusal::NoMemory => Err(AllocError),
     }
 }
 
@@ -82,12 +85,12 @@ fn checked(alloc: Global, listed: &[Listed<'_>], cert: &Cert) -> Result<Outcome,
 }
 
 // The verdict on bytes that were not read.
-fn refused(error: ReadError) -> Result<Outcome, AllocError>
+fn refused(error: Refusal<ReadFault>) -> Result<Outcome, AllocError>
     ensures { IfOk result (IsUnreadOf error) }
 {
     match error {
-        ReadError::Refused(offset) => Ok(Outcome::Unread(offset)),
-        ReadError::NoMemory => Err(AllocError),
+        Refusal::Fault(ReadFault::Refused(offset)) => Ok(Outcome::Unread(offset)),
+        Refusal::NoMemory => Err(AllocError),
     }
 }
 

@@ -74,7 +74,8 @@ fn search_sides<N: Notes>(
 }
 
 /// What a search finds of the functions of a list with pairs: which it proves, each by a bare Leaf
-/// and logs, the certificate of these, and the trails of the others. `notes` is told how it goes on.
+/// and logs, the certificate of these, and the trails of the others. `notes` is told how it goes
+/// on.
 pub fn prove<N: Notes>(
     alloc: Global,
     image: &Image<'_>,

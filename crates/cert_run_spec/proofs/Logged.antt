@@ -12,7 +12,7 @@ use Rattle.cert_text_spec.specs.Derivation as derivation
 use Rattle.cert_text_spec.specs.Derivation.{Derives}
 use Rattle.cert_text_spec.specs.Lines.{Line, Header, Function, Leaf, Log, LogStep, End, IsStep, line_text}
 use Rattle.cert_text_spec.specs.Certificates.{IsCertificate, Expected, AHeader, TheParts, BinaryInlines, ALog, AStep, Fits, after}
-use Rattle.cert_check_spec.specs.declared.RuleFault.TheVariants.{Missing}
+use Rattle.cert_check_spec.specs.declared.RuleWord.TheVariants.{Missing}
 use Rattle.cert_check_spec.specs.Verdict as walk
 use Rattle.cert_check_spec.specs.Verdict.{Listed, Job, Prove, Close, Checked, State, Between, Inside, begun, IsMissing, Passes, Proves, Refutes, IsProof, IsFault}
 use Rattle.prove_run_spec.specs.Proofs.{HasProof, AreClosedBy}

@@ -15,9 +15,9 @@ use Rattle.cert_check_terms.specs.Variables.{AreApart}
 use Rattle.cert_check_terms.specs.Reading.{line_of}
 use Rattle.cert_check_terms.proofs.Complete.{line_read}
 use Rattle.discharge_spec.specs.Closing.{closing}
-use Rattle.cert_check_spec.specs.declared.RuleFault.{RuleFault}
-use Rattle.cert_check_spec.specs.declared.RuleFault.TheVariants as fault
-use Rattle.cert_check_spec.specs.declared.Quantity.{Quantity}
+use Rattle.cert_check_spec.specs.declared.RuleWord.{RuleWord}
+use Rattle.cert_check_spec.specs.declared.RuleWord.TheVariants as fault
+use Rattle.tv_limits.specs.declared.Quantity.{Quantity}
 use Rattle.cert_check_spec.specs.Verdict as walk
 use Rattle.cert_check_spec.specs.Verdict.{Listed, Job, Prove, Close, Checked, State, Between, Inside, begun, Fault, IsFree, IsTest, with_test, AreSteps, Passes, Fails, Proves, Refutes, IsProof}
 use Rattle.validity_laws.proofs.Excluded.{one_leaf}
@@ -334,7 +334,7 @@ abbrev name_in : Fault → List ℕ
 name_in (walk.NotProof name rule) = name
 name_in (walk.Limit q) = []
 
-abbrev rule_in : RuleFault → Fault → RuleFault
+abbrev rule_in : RuleWord → Fault → RuleWord
 rule_in other (walk.NotProof name rule) = rule
 rule_in other (walk.Limit q) = other
 

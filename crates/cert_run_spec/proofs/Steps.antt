@@ -11,8 +11,8 @@ use Rattle.cert_text_spec.specs.declared.Symbol.{Symbol}
 use Rattle.cert_text_spec.specs.Lines.{Line, Header, Function, InlineBinary, InlineSource, Leaf, Case, RestrictBinary, RestrictSource, Split, Call, Relation, Log, LogStep, End}
 use Rattle.discharge_spec.specs.declared.GoalQuantity.TheVariants as above
 use Rattle.discharge_spec.specs.Closing.{Closing, Closes, IsLarge, Fails as FailsAt, Unclosed, closing}
-use Rattle.cert_check_spec.specs.declared.RuleFault.TheVariants as fault
-use Rattle.cert_check_spec.specs.declared.Quantity.TheVariants as quantity
+use Rattle.cert_check_spec.specs.declared.RuleWord.TheVariants as fault
+use Rattle.tv_limits.specs.declared.Quantity.TheVariants as quantity
 use Rattle.cert_check_spec.specs.Verdict as walk
 use Rattle.cert_check_spec.specs.Verdict.{Listed, Job, Prove, Close, Checked, State, Between, Inside, begun, Fault, NotProof, Limit, IsFree, IsMissing, IsTest, with_test, AreSteps, IsLater, Passes, Fails}
 
@@ -59,6 +59,14 @@ abbrev pub closed_by : (parts : List Listed) → (f : Listed) → (below : List 
 closed_by parts f below count Closes = Goes (Inside parts f (replicate count Checked ++ below))
 closed_by parts f below count (IsLarge above.Terms) = Stops 0 (Limit quantity.Terms)
 closed_by parts f below count (IsLarge above.Variables) = Stops 0 (Limit quantity.Variables)
+closed_by parts f below count (IsLarge above.Elf) = Stops 0 (Limit quantity.Elf)
+closed_by parts f below count (IsLarge above.C) = Stops 0 (Limit quantity.C)
+closed_by parts f below count (IsLarge above.Functions) = Stops 0 (Limit quantity.Functions)
+closed_by parts f below count (IsLarge above.Nodes) = Stops 0 (Limit quantity.Nodes)
+closed_by parts f below count (IsLarge above.Certificate) = Stops 0 (Limit quantity.Certificate)
+closed_by parts f below count (IsLarge above.Call) = Stops 0 (Limit quantity.Call)
+closed_by parts f below count (IsLarge above.Steps) = Stops 0 (Limit quantity.Steps)
+closed_by parts f below count (IsLarge above.Known) = Stops 0 (Limit quantity.Known)
 closed_by parts f below count (FailsAt number) = Stops number (NotProof f.name fault.Step)
 closed_by parts f below count Unclosed = Stops 0 (NotProof f.name fault.Unclosed)
 

@@ -12,7 +12,7 @@ use Rattle.validity_spec.specs.Claim.{IsValid}
 use Rattle.clause_check_spec.specs.Log as clauses
 use Rattle.cert_text_spec.specs.Lines.{IsStep, is_name, line_text}
 use Rattle.cert_check_terms.specs.Variables.{AreApart}
-use Rattle.cert_check_spec.specs.declared.RuleFault.TheVariants.{Missing}
+use Rattle.cert_check_spec.specs.declared.RuleWord.TheVariants.{Missing}
 use Rattle.cert_check_spec.specs.Verdict.{Listed, IsMissing}
 use Rattle.cert_run_spec.specs.Files.{AreListed, HasWords}
 use Rattle.prove_run_spec.specs.Proofs.{HasProof}

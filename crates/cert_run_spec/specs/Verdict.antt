@@ -3,8 +3,8 @@ use Rattle.std.specs.Prelude.{ℕ, true, List, [], ◌∷◌, ◌++◌, length, 
 use Rattle.clause_check_spec.specs.Log as clauses
 use Rattle.cert_text_spec.specs.Lines.{Line, Header, Function, Leaf, Log, LogStep, End, line_text}
 use Rattle.cert_text_spec.specs.Certificates.{IsCertificate, IsFault}
-use Rattle.cert_check_spec.specs.declared.RuleFault.{RuleFault}
-use Rattle.cert_check_spec.specs.declared.Quantity.{Quantity}
+use Rattle.cert_check_spec.specs.declared.RuleWord.{RuleWord}
+use Rattle.tv_limits.specs.declared.Quantity.{Quantity}
 use Rattle.cert_check_spec.specs.Verdict as check
 use Rattle.cert_check_spec.specs.Verdict.{Listed, IsProof}
 use Rattle.report_text_spec.specs.Verdict.{Judgement}
@@ -15,7 +15,7 @@ pub data Outcome : Type 0 where
   -- the bytes are no certificate: their longest prefix that begins one has this length
   Unread : (offset : ℕ) → Outcome
   -- the line at an offset is the first that breaks a rule: this one, in the part of the function of this name
-  Broken : (function : List ℕ) → (offset : ℕ) → RuleFault → Outcome
+  Broken : (function : List ℕ) → (offset : ℕ) → RuleWord → Outcome
   -- before that a quantity is above its maximum
   Above : Quantity → Outcome
   -- no line does
@@ -24,7 +24,7 @@ pub data Outcome : Type 0 where
 -- the verdict on the bytes of a certificate of the listed functions
 pub data IsOutcome (listed : List Listed) (bytes : List ℕ) : Outcome → Type 0 where
   unread : (offset : ℕ) → IsFault bytes offset → IsOutcome listed bytes (Unread offset)
-  broken : (lines : List Line) (function : List ℕ) (offset : ℕ) (rule : RuleFault) → IsCertificate bytes lines
+  broken : (lines : List Line) (function : List ℕ) (offset : ℕ) (rule : RuleWord) → IsCertificate bytes lines
       → check.IsFault listed lines offset (check.NotProof function rule) → IsOutcome listed bytes (Broken function offset rule)
   above : (lines : List Line) (offset : ℕ) (quantity : Quantity) → IsCertificate bytes lines
       → check.IsFault listed lines offset (check.Limit quantity) → IsOutcome listed bytes (Above quantity)

@@ -13,8 +13,10 @@ use Rattle.cert_text_laws.proofs.Bytes.{simply-exact}
 use Rattle.cert_text_laws.proofs.Loops.{items-start, items-step, items-fault, items-end}
 use Rattle.cert_text_laws.proofs.Lines.{line_read}
 use Rattle.cert_text_laws.proofs.Certificates.{line_shorter}
-use Rattle.cert_text_parse.specs.declared.stopped.Stopped.{Stopped}
-use Rattle.cert_text_parse.specs.declared.stopped.Stopped.TheVariants.{NoMemory, Wrong}
+use Rattle.attempt.specs.declared.refusal.Refusal.{Refusal}
+use Rattle.attempt.specs.declared.refusal.Refusal.TheVariants.{Fault, NoMemory}
+use Rattle.cert_text_parse.specs.declared.stopped.TextFault.{TextFault}
+use Rattle.cert_text_parse.specs.declared.stopped.TextFault.TheVariants.{Wrong}
 use Rattle.cert_text_parse.specs.declared.cursor.Cursor.{Cursor}
 use Rattle.cert_text_parse.specs.declared.lines.Literal.{Literal}
 use Rattle.cert_text_parse.specs.declared.lines.Line.{Line}
@@ -165,10 +167,10 @@ module _ (expected : List certificates.Expected) (old : List ℕ) (cert : Cert) 
     next_shorter from new same next after a =
         line_shorter (expected_of e) rest new.rest.now (line_at a.line a.added.literals a.added.hints) (ap (read_line (expected_of e)) (sym same) ∙ a.added.read)
 
-    pub lines_fail : (first from new : Cursor) → first.rest.now ≡ old → from.rest.now ≡ rest → (any : Cert) (s : Stopped) (stack_old stack_new : List Group) (before after : Cert)
+    pub lines_fail : (first from new : Cursor) → first.rest.now ≡ old → from.rest.now ≡ rest → (any : Cert) (s : Refusal TextFault) (stack_old stack_new : List Group) (before after : Cert)
         → AddsOne (expected_of e) from new stack_old stack_new before after (Err s) → ReadsLines (read_items read_line certificates.after expected) first new any (Err s)
     lines_fail first from new begin same any NoMemory stack_old stack_new before after h = tt
-    lines_fail first from new begin same any Wrong stack_old stack_new before after h =
+    lines_fail first from new begin same any (Fault Wrong) stack_old stack_new before after h =
         let read : read_line (expected_of e) rest ≡ refused new.rest.now = ap (read_line (expected_of e)) (sym same) ∙ h in (
           ap (read_items read_line certificates.after expected) begin ∙ lines_fault new.rest.now read,
           subst (λ o. length new.rest.now ≤ length o) (sym begin) (fault_within new.rest.now read),
@@ -179,9 +181,9 @@ module _ (expected : List certificates.Expected) (old : List ℕ) (cert : Cert) 
 abbrev lines : List ℕ → reading.Outcome ℕ (Unit {0}) (List spec.Line)
 lines = read_items read_line certificates.after (certificates.AHeader ∷ [])
 
-pub whole_fails : (old new : Cursor) (cert any : Cert) (s : Stopped) → ReadsLines lines old new cert (Err s) → ReadsWhole old new any (Err s)
+pub whole_fails : (old new : Cursor) (cert any : Cert) (s : Refusal TextFault) → ReadsLines lines old new cert (Err s) → ReadsWhole old new any (Err s)
 whole_fails old new cert any NoMemory h = tt
-whole_fails old new cert any Wrong h = (ap (at_end (tt {0})) h.0, h.1)
+whole_fails old new cert any (Fault Wrong) h = (ap (at_end (tt {0})) h.0, h.1)
 
 pub whole_ends : (old new : Cursor) (cert : Cert) → ReadsLines lines old new cert (Ok tt) → new.rest.now ≡ [] → read_certificate old.rest.now ≡ Ok (certificate_of cert)
 whole_ends old new cert h e = ap (at_end (tt {0})) (h.0 ∙ ap (given (certificate_of cert)) e)

@@ -6,8 +6,10 @@ use Rattle.cert_text_parse.specs.declared.lines.Literal.{Literal}
 use Rattle.cert_text_parse.specs.declared.lines.Line.{Line}
 use Rattle.cert_text_parse.specs.Views.{line_at, literals_in, hints_in}
 use Rattle.cert_text.specs.declared.certificates.Cert.{Cert}
-use Rattle.cert_text.specs.declared.certificates.ReadError.{ReadError}
-use Rattle.cert_text.specs.declared.certificates.ReadError.TheVariants.{NoMemory, Refused}
+use Rattle.attempt.specs.declared.refusal.Refusal.{Refusal}
+use Rattle.attempt.specs.declared.refusal.Refusal.TheVariants.{Fault, NoMemory}
+use Rattle.cert_text.specs.declared.certificates.ReadFault.{ReadFault}
+use Rattle.cert_text.specs.declared.certificates.ReadFault.TheVariants.{Refused}
 
 -- the lines, of which each step takes the next literals and hints
 unfoldable pub lines_of : List Line → List Literal → List ℕ → List spec.Line
@@ -37,7 +39,7 @@ pub record IsEmpty (cert : Cert) : Type 0 where
   pub hints : cert.logs.hints.items ≡ []
 
 -- the certificate that the bytes are, or their fault; out of memory can always come
-abbrev pub IsRead : (bytes : List ℕ) → Result Cert ReadError → Type 0
+abbrev pub IsRead : (bytes : List ℕ) → Result Cert (Refusal ReadFault) → Type 0
 IsRead bytes (Ok cert) = IsCertificate bytes (certificate_of cert)
 IsRead bytes (Err NoMemory) = Unit {0}
-IsRead bytes (Err (Refused offset)) = IsFault bytes offset
+IsRead bytes (Err (Fault (Refused offset))) = IsFault bytes offset

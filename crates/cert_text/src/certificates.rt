@@ -13,9 +13,7 @@ pub struct Cert {
 
 /// Why bytes are not read.
 #[derive(Clone, Copy)]
-pub enum ReadError {
-    /// Out of memory.
-    NoMemory,
+pub enum ReadFault {
     /// They are no certificate: the length of their longest prefix that begins one.
     Refused(usize),
 }

@@ -18,7 +18,7 @@ mod symbols;
 mod terms;
 mod writing;
 
-pub use certificates::{Cert, ReadError};
+pub use certificates::{Cert, ReadFault};
 pub use laws::{reads_what_it_writes, writes_what_it_reads};
 pub use offsets::offset;
 pub use reading::read;

@@ -9,11 +9,11 @@ ghost use Rattle.cert_text.specs.Certificates.{IsEmpty, IsRead};
 ghost use Rattle.cert_text.specs.Outcomes.{AddsOne, ReadsLines, ReadsWhole};
 ghost use Rattle.cert_text.specs.Stack.{stack_of};
 
-use crate::certificates::{Cert, ReadError};
+use crate::certificates::{Cert, ReadFault};
 use crate::sizes::empty;
 use crate::stack::{Group, next_expected, push_after, push_expected};
-use attempt::attempt;
-use cert_text_parse::{Cursor, Expected, Stopped, next_line};
+use attempt::{Refusal, attempt};
+use cert_text_parse::{Cursor, Expected, TextFault, next_line};
 use std::alloc::Global;
 
 // A line where this is expected is added to the certificate, and what is expected after it to the
@@ -24,13 +24,13 @@ fn add_line(
     expected: Expected,
     stack: &mut Vec<Group>,
     cert: &mut Cert,
-) -> Result<(), Stopped>
+) -> Result<(), Refusal<TextFault>>
     ensures { AddsOne (expected_of expected) cursor.old cursor.new stack.old.items stack.new.items
         cert.old cert.new result }
 {
     let line = attempt!(next_line(alloc, cursor, expected, &mut cert.logs));
-    attempt!(push_after(stack, expected, &line), Stopped::NoMemory);
-    attempt!(cert.lines.push(line), Stopped::NoMemory);
+    attempt!(push_after(stack, expected, &line), Refusal::NoMemory);
+    attempt!(cert.lines.push(line), Refusal::NoMemory);
     Ok(())
 }
 
@@ -40,7 +40,7 @@ fn read_lines(
     cursor: &mut Cursor<'_>,
     stack: &mut Vec<Group>,
     cert: &mut Cert,
-) -> Result<(), Stopped>
+) -> Result<(), Refusal<TextFault>>
     requires { IsEmpty cert.old }
     ensures { ReadsLines (read_items lines.read_line after (stack_of stack.old.items)) cursor.old
         cursor.new cert.new result }
@@ -48,7 +48,7 @@ fn read_lines(
     loop {
         let next = match next_expected(stack) {
             Ok(next) => next,
-            Err(_) => return Err(Stopped::NoMemory),
+            Err(_) => return Err(Refusal::NoMemory),
         };
         match next {
             Some(expected) => match add_line(alloc, cursor, expected, stack, cert) {
@@ -61,7 +61,11 @@ fn read_lines(
 }
 
 // The lines of a certificate.
-fn read_all(alloc: Global, cursor: &mut Cursor<'_>, cert: &mut Cert) -> Result<(), Stopped>
+fn read_all(
+    alloc: Global,
+    cursor: &mut Cursor<'_>,
+    cert: &mut Cert,
+) -> Result<(), Refusal<TextFault>>
     requires { IsEmpty cert.old }
     ensures { ReadsLines (read_items lines.read_line after (AHeader ∷ [])) cursor.old cursor.new
         cert.new result }
@@ -69,13 +73,17 @@ fn read_all(alloc: Global, cursor: &mut Cursor<'_>, cert: &mut Cert) -> Result<(
     let mut stack = Vec::new(alloc);
     match push_expected(&mut stack, Expected::Header, 1) {
         Ok(()) => {}
-        Err(_) => return Err(Stopped::NoMemory),
+        Err(_) => return Err(Refusal::NoMemory),
     }
     read_lines(alloc, cursor, &mut stack, cert)
 }
 
 // The lines of a certificate, and the end of the bytes.
-fn read_whole(alloc: Global, cursor: &mut Cursor<'_>, cert: &mut Cert) -> Result<(), Stopped>
+fn read_whole(
+    alloc: Global,
+    cursor: &mut Cursor<'_>,
+    cert: &mut Cert,
+) -> Result<(), Refusal<TextFault>>
     requires { IsEmpty cert.old }
     ensures { ReadsWhole cursor.old cursor.new cert.new result }
 {
@@ -83,7 +91,7 @@ fn read_whole(alloc: Global, cursor: &mut Cursor<'_>, cert: &mut Cert) -> Result
     if cursor.rest.is_empty() {
         return Ok(());
     }
-    Err(Stopped::Wrong)
+    Err(Refusal::Fault(TextFault::Wrong))
 }
 
 /// The certificate that the bytes are.
@@ -91,14 +99,16 @@ fn read_whole(alloc: Global, cursor: &mut Cursor<'_>, cert: &mut Cert) -> Result
 /// # Errors
 ///
 /// Where they are none, the length of their longest prefix that begins one.
-pub fn read(alloc: Global, bytes: &[u8]) -> Result<Cert, ReadError>
+pub fn read(alloc: Global, bytes: &[u8]) -> Result<Cert, Refusal<ReadFault>>
     ensures { IsRead bytes.now result }
 {
-    let mut cert = attempt!(empty(alloc, bytes), ReadError::NoMemory);
+    let mut cert = attempt!(empty(alloc, bytes), Refusal::NoMemory);
     let mut cursor = Cursor { rest: bytes };
     match read_whole(alloc, &mut cursor, &mut cert) {
         Ok(()) => Ok(cert),
-        Err(Stopped::NoMemory) => Err(ReadError::NoMemory),
-        Err(Stopped::Wrong) => Err(ReadError::Refused(bytes.len() - cursor.rest.len())),
+        Err(Refusal::NoMemory) => Err(Refusal::NoMemory),
+        Err(Refusal::Fault(TextFault::Wrong)) => Err(Refusal::Fault(ReadFault::Refused(
+            bytes.len() - cursor.rest.len(),
+        ))),
     }
 }

@@ -8,8 +8,10 @@ use Rattle.cert_text_laws.specs.Readers.{Reader, given, read_word}
 use Rattle.cert_text_laws.specs.Parts.{read_literals, read_hints}
 use Rattle.cert_text_laws.specs.Parts as parts
 use Rattle.cert_text_laws.specs.Lines.{read_fields, read_line, KStep}
-use Rattle.cert_text_parse.specs.declared.stopped.Stopped.{Stopped}
-use Rattle.cert_text_parse.specs.declared.stopped.Stopped.TheVariants.{NoMemory, Wrong}
+use Rattle.attempt.specs.declared.refusal.Refusal.{Refusal}
+use Rattle.attempt.specs.declared.refusal.Refusal.TheVariants.{Fault, NoMemory}
+use Rattle.cert_text_parse.specs.declared.stopped.TextFault.{TextFault}
+use Rattle.cert_text_parse.specs.declared.stopped.TextFault.TheVariants.{Wrong}
 use Rattle.cert_text_parse.specs.declared.cursor.Cursor.{Cursor}
 use Rattle.cert_text_parse.specs.Outcomes.{Parses}
 use Rattle.cert_text_parse.specs.declared.lines.Literal.{Literal}
@@ -45,7 +47,7 @@ bare (code.Log n) e = record { literals = refl; hints = refl; same = refl }
 bare code.End e = record { literals = refl; hints = refl; same = refl }
 
 -- it is added with nothing
-pub nothing_added : (reader : Reader spec.Line) (old new : Cursor) (logs : Logs) (result : Result Line Stopped) → ParsesLine reader old new result → AddsLine reader old new logs logs result
+pub nothing_added : (reader : Reader spec.Line) (old new : Cursor) (logs : Logs) (result : Result Line (Refusal TextFault)) → ParsesLine reader old new result → AddsLine reader old new logs logs result
 nothing_added reader old new logs (Ok line) h =
     let b = bare line h.1 in
     record {
@@ -58,7 +60,7 @@ nothing_added reader old new logs (Ok line) h =
       read = h.0 ∙ ap (λ l. given l new.rest.now) b.same;
     }
 nothing_added reader old new logs (Err NoMemory) h = tt
-nothing_added reader old new logs (Err Wrong) h = h
+nothing_added reader old new logs (Err (Fault Wrong)) h = h
 
 take_all : {X : Type 0} (xs : List X) (n : ℕ) → length xs ≡ n → xs ≡ take n xs
 take_all xs n e = all xs ∙ ap (λ k. take k xs) e
@@ -91,14 +93,14 @@ module _ (old middle new : Cursor) (before after : Logs) (k h : ℕ) where
   }
 
 -- the reader of a step has its literals first
-pub step_fails : (old middle new : Cursor) (before after : Logs) (any : List Literal) (e : Stopped) → Adds literal_of read_literals old new before.literals.items any (Err e)
+pub step_fails : (old middle new : Cursor) (before after : Logs) (any : List Literal) (e : Refusal TextFault) → Adds literal_of read_literals old new before.literals.items any (Err e)
     → AddsLine (read_fields KStep) old new before after (Err e)
 step_fails old middle new before after any NoMemory h = tt
-step_fails old middle new before after any Wrong h = ap (λ o. bind (bind (bind o (λ ls r. bind (read_hints r) (λ hs l. Ok ((ls, hs), l)))) (λ p l. Ok (parts.step_of p, l))) (λ s l. Ok (spec.LogStep s, l))) h
+step_fails old middle new before after any (Fault Wrong) h = ap (λ o. bind (bind (bind o (λ ls r. bind (read_hints r) (λ hs l. Ok ((ls, hs), l)))) (λ p l. Ok (parts.step_of p, l))) (λ s l. Ok (spec.LogStep s, l))) h
 
 -- a line after its keyword is a line
 module _ (e : certificates.Expected) (old middle new : Cursor) (before after : Logs) (k : Keyword) (h : read_word (words e) old.rest.now ≡ given k middle.rest.now) where
-  pub with_keyword : (result : Result Line Stopped) → AddsLine (read_fields (keyword_of k)) middle new before after result → AddsLine (read_line e) old new before after result
+  pub with_keyword : (result : Result Line (Refusal TextFault)) → AddsLine (read_fields (keyword_of k)) middle new before after result → AddsLine (read_line e) old new before after result
   with_keyword (Ok line) a = record {
     literals = a.literals;
     hints = a.hints;
@@ -109,8 +111,8 @@ module _ (e : certificates.Expected) (old middle new : Cursor) (before after : L
     read = line_after e old.rest.now middle.rest.now k h ∙ ap (λ o. bind o (λ line last. given line last)) a.read;
   }
   with_keyword (Err NoMemory) a = tt
-  with_keyword (Err Wrong) a = line_after e old.rest.now middle.rest.now k h ∙ ap (λ o. bind o (λ line last. given line last)) a
+  with_keyword (Err (Fault Wrong)) a = line_after e old.rest.now middle.rest.now k h ∙ ap (λ o. bind o (λ line last. given line last)) a
 
-pub no_keyword : (e : certificates.Expected) (old new : Cursor) (logs : Logs) (s : Stopped) → Parses (read_word (words e)) old new (Err s) → AddsLine (read_line e) old new logs logs (Err s)
+pub no_keyword : (e : certificates.Expected) (old new : Cursor) (logs : Logs) (s : Refusal TextFault) → Parses (read_word (words e)) old new (Err s) → AddsLine (read_line e) old new logs logs (Err s)
 no_keyword e old new logs NoMemory h = tt
-no_keyword e old new logs Wrong h = line_none e old.rest.now new.rest.now h
+no_keyword e old new logs (Fault Wrong) h = line_none e old.rest.now new.rest.now h

@@ -9,8 +9,10 @@ use Rattle.cert_text_laws.specs.Parts.{read_literal, after_literal, literals_in,
 use Rattle.cert_text_laws.proofs.Bytes.{simply-exact}
 use Rattle.cert_text_laws.proofs.Decimals.{reads-decimal}
 use Rattle.cert_text_laws.proofs.Steps.{literal_shorter, hint_shorter}
-use Rattle.cert_text_parse.specs.declared.stopped.Stopped.{Stopped}
-use Rattle.cert_text_parse.specs.declared.stopped.Stopped.TheVariants.{NoMemory, Wrong}
+use Rattle.attempt.specs.declared.refusal.Refusal.{Refusal}
+use Rattle.attempt.specs.declared.refusal.Refusal.TheVariants.{Fault, NoMemory}
+use Rattle.cert_text_parse.specs.declared.stopped.TextFault.{TextFault}
+use Rattle.cert_text_parse.specs.declared.stopped.TextFault.TheVariants.{Wrong}
 use Rattle.cert_text_parse.specs.declared.cursor.Cursor.{Cursor}
 use Rattle.cert_text_parse.specs.Outcomes.{Parses}
 use Rattle.cert_text_parse.specs.PartOutcomes.{ParsesAs}
@@ -107,12 +109,12 @@ module _ (old before now rest middle : List ℕ) (r : HintsLeft old before now r
 -- ---- faults, and a whole step
 
 module _ (old : List ℕ) (from middle new : Cursor) (same : from.rest.now ≡ old) where
-  pub literals_fail : (before now : List Literal) → LiteralsLeft old before now middle.rest.now → (e : Stopped) → ParsesAs (option_map literal_of) (read_literal (tt {0})) middle new (Err e) → (any : List Literal)
+  pub literals_fail : (before now : List Literal) → LiteralsLeft old before now middle.rest.now → (e : Refusal TextFault) → ParsesAs (option_map literal_of) (read_literal (tt {0})) middle new (Err e) → (any : List Literal)
       → Adds literal_of read_literals from new before any (Err e)
   literals_fail before now r NoMemory h any = tt
-  literals_fail before now r Wrong h any = ap read_literals same ∙ literals_fault old before now middle.rest.now new.rest.now r h
+  literals_fail before now r (Fault Wrong) h any = ap read_literals same ∙ literals_fault old before now middle.rest.now new.rest.now r h
 
-  pub hints_fail : (before now : List ℕ) → HintsLeft old before now middle.rest.now → (e : Stopped) → Parses (read_hint (tt {0})) middle new (Err e) → (any : List ℕ)
+  pub hints_fail : (before now : List ℕ) → HintsLeft old before now middle.rest.now → (e : Refusal TextFault) → Parses (read_hint (tt {0})) middle new (Err e) → (any : List ℕ)
       → Adds (λ (n : ℕ). n) read_hints from new before any (Err e)
   hints_fail before now r NoMemory h any = tt
-  hints_fail before now r Wrong h any = ap read_hints same ∙ hints_fault old before now middle.rest.now new.rest.now r h
+  hints_fail before now r (Fault Wrong) h any = ap read_hints same ∙ hints_fault old before now middle.rest.now new.rest.now r h

@@ -13,8 +13,10 @@ use Rattle.cert_text_laws.proofs.Loops.{items-start, items-step, items-fault, it
 use Rattle.cert_text_laws.proofs.Points.{address_step_shorter, place_step_shorter}
 use Rattle.cert_text_parse.specs.declared.points.Ending.{Ending}
 use Rattle.cert_text_parse.specs.declared.points.Ending.TheVariants as ending
-use Rattle.cert_text_parse.specs.declared.stopped.Stopped.{Stopped}
-use Rattle.cert_text_parse.specs.declared.stopped.Stopped.TheVariants.{NoMemory, Wrong}
+use Rattle.attempt.specs.declared.refusal.Refusal.{Refusal}
+use Rattle.attempt.specs.declared.refusal.Refusal.TheVariants.{Fault, NoMemory}
+use Rattle.cert_text_parse.specs.declared.stopped.TextFault.{TextFault}
+use Rattle.cert_text_parse.specs.declared.stopped.TextFault.TheVariants.{Wrong}
 use Rattle.cert_text_parse.specs.declared.cursor.Cursor.{Cursor}
 use Rattle.cert_text_parse.specs.Outcomes.{Parses}
 use Rattle.cert_text_parse.specs.PartOutcomes.{ending_text, read_address_at, read_place_at, ParsesBinary, ParsesSource}
@@ -81,9 +83,9 @@ module _ (end : Ending) (old path rest middle : List ℕ) (p : BinaryLeft end ol
   binary_next a e = path_step (read_address_step (ending_text end)) (λ n. n) old path rest middle p a e (address_shorter end rest middle (a, false) e)
 
 module _ (end : Ending) (old new : Cursor) (path rest : List ℕ) (p : BinaryLeft end old.rest.now path rest) where
-  pub binary_fails : (e : Stopped) → (middle : Cursor) → middle.rest.now ≡ rest → Parses (read_address_at end) middle new (Err e) → ParsesBinary end path old new (Err e)
+  pub binary_fails : (e : Refusal TextFault) → (middle : Cursor) → middle.rest.now ≡ rest → Parses (read_address_at end) middle new (Err e) → ParsesBinary end path old new (Err e)
   binary_fails NoMemory middle same h = tt
-  binary_fails Wrong middle same h = binary_fault end old.rest.now path rest new.rest.now p (ap (read_address_at end) (sym same) ∙ h)
+  binary_fails (Fault Wrong) middle same h = binary_fault end old.rest.now path rest new.rest.now p (ap (read_address_at end) (sym same) ∙ h)
 
 -- ---- points of the source
 
@@ -111,9 +113,9 @@ module _ (end : Ending) (old path rest middle : List ℕ) (p : SourceLeft end ol
   source_next q e = path_step (read_place_step (ending_text end)) place_number old path rest middle p q e (place_shorter end rest middle (q, false) e)
 
 module _ (end : Ending) (old new : Cursor) (path rest : List ℕ) (p : SourceLeft end old.rest.now path rest) where
-  pub source_fails : (e : Stopped) → (middle : Cursor) → middle.rest.now ≡ rest → Parses (read_place_at end) middle new (Err e) → ParsesSource end path old new (Err e)
+  pub source_fails : (e : Refusal TextFault) → (middle : Cursor) → middle.rest.now ≡ rest → Parses (read_place_at end) middle new (Err e) → ParsesSource end path old new (Err e)
   source_fails NoMemory middle same h = tt
-  source_fails Wrong middle same h = source_fault end old.rest.now path rest new.rest.now p (ap (read_place_at end) (sym same) ∙ h)
+  source_fails (Fault Wrong) middle same h = source_fault end old.rest.now path rest new.rest.now p (ap (read_place_at end) (sym same) ∙ h)
 
 -- a path begins
 pub binary_starts : (end : Ending) (old path : List ℕ) → path ≡ [] → BinaryLeft end old path old

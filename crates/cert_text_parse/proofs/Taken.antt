@@ -2,8 +2,10 @@
 use Rattle.std.specs.Prelude.{◌*◌}
 use Rattle.std.proofs.Common.{◌≡◌, ℕ, ◌+◌, ◌<◌, List, Ok, Err, refl, ap, sym, ◌∙◌, subst, arith}
 use Rattle.cert_text_laws.specs.Readers.{given, refused, read_hexadecimal, read_address}
-use Rattle.cert_text_parse.specs.declared.stopped.Stopped.{Stopped}
-use Rattle.cert_text_parse.specs.declared.stopped.Stopped.TheVariants.{NoMemory, Wrong}
+use Rattle.attempt.specs.declared.refusal.Refusal.{Refusal}
+use Rattle.attempt.specs.declared.refusal.Refusal.TheVariants.{Fault, NoMemory}
+use Rattle.cert_text_parse.specs.declared.stopped.TextFault.{TextFault}
+use Rattle.cert_text_parse.specs.declared.stopped.TextFault.TheVariants.{Wrong}
 use Rattle.cert_text_parse.specs.declared.cursor.Cursor.{Cursor}
 use Rattle.cert_text_parse.specs.Outcomes.{Parses, Takes}
 
@@ -11,14 +13,14 @@ twice : (digits more : ℕ) → digits + (digits + more) ≡ digits + digits + m
 twice digits more = omega arith
 
 module _ (digits bound : ℕ) (old middle new : Cursor) where
-  pub first_fails : (e : Stopped) → Takes digits bound old new (Err e) → Takes (digits + digits) (bound * bound) old new (Err e)
+  pub first_fails : (e : Refusal TextFault) → Takes digits bound old new (Err e) → Takes (digits + digits) (bound * bound) old new (Err e)
   first_fails NoMemory h = h
-  first_fails Wrong h = λ more value. ap (λ n. read_hexadecimal n value old.rest.now) (sym (twice digits more)) ∙ h (digits + more) value
+  first_fails (Fault Wrong) h = λ more value. ap (λ n. read_hexadecimal n value old.rest.now) (sym (twice digits more)) ∙ h (digits + more) value
 
   module _ (high : ℕ) (one : Takes digits bound old middle (Ok high)) where
-    pub second_fails : (e : Stopped) → Takes digits bound middle new (Err e) → Takes (digits + digits) (bound * bound) old new (Err e)
+    pub second_fails : (e : Refusal TextFault) → Takes digits bound middle new (Err e) → Takes (digits + digits) (bound * bound) old new (Err e)
     second_fails NoMemory h = h
-    second_fails Wrong h = λ more value. ap (λ n. read_hexadecimal n value old.rest.now) (sym (twice digits more)) ∙ one.1 (digits + more) value ∙ h more (value * bound + high)
+    second_fails (Fault Wrong) h = λ more value. ap (λ n. read_hexadecimal n value old.rest.now) (sym (twice digits more)) ∙ one.1 (digits + more) value ∙ h more (value * bound + high)
 
     pub both_taken : (low : ℕ) → high * bound + low < bound * bound → ((v : ℕ) → (v * bound + high) * bound + low ≡ v * (bound * bound) + (high * bound + low))
         → Takes digits bound middle new (Ok low) → Takes (digits + digits) (bound * bound) old new (Ok (high * bound + low))
@@ -35,6 +37,6 @@ module _ (bound : ℕ) (old new : Cursor) where
       zero_more : (d : ℕ) → 0 * bound + d ≡ d
       zero_more d = omega arith
 
-  pub address_fails : (e : Stopped) → Takes 8 bound old new (Err e) → Parses read_address old new (Err e)
+  pub address_fails : (e : Refusal TextFault) → Takes 8 bound old new (Err e) → Parses read_address old new (Err e)
   address_fails NoMemory h = tt
-  address_fails Wrong h = h 0 0
+  address_fails (Fault Wrong) h = h 0 0

@@ -7,8 +7,10 @@ use Rattle.cert_text_spec.specs.Lines as spec
 use Rattle.cert_text_laws.specs.Readers.{Reader, given, refused}
 use Rattle.cert_text_laws.specs.Parts.{read_ended, read_led, read_positive, read_number, read_counts, literal_of}
 use Rattle.cert_text_laws.specs.Lines.{read_last_number, space}
-use Rattle.cert_text_parse.specs.declared.stopped.Stopped.{Stopped}
-use Rattle.cert_text_parse.specs.declared.stopped.Stopped.TheVariants.{NoMemory, Wrong}
+use Rattle.attempt.specs.declared.refusal.Refusal.{Refusal}
+use Rattle.attempt.specs.declared.refusal.Refusal.TheVariants.{Fault, NoMemory}
+use Rattle.cert_text_parse.specs.declared.stopped.TextFault.{TextFault}
+use Rattle.cert_text_parse.specs.declared.stopped.TextFault.TheVariants.{Wrong}
 use Rattle.cert_text_parse.specs.declared.cursor.Cursor.{Cursor}
 use Rattle.cert_text_parse.specs.declared.lines.Literal.{Literal}
 use Rattle.cert_text_parse.specs.declared.lines.Logs.{Logs}
@@ -38,18 +40,18 @@ pub record HasAdded {X Y : Type 0} (view : X → Y) (reader : Reader (List Y)) (
   pub counted : length added ≡ count
   pub read : reader old.rest.now ≡ given (map view added) new.rest.now
 
-abbrev pub Adds : {X Y : Type 0} → (view : X → Y) → Reader (List Y) → (old new : Cursor) → (before after : List X) → Result ℕ Stopped → Type 0
+abbrev pub Adds : {X Y : Type 0} → (view : X → Y) → Reader (List Y) → (old new : Cursor) → (before after : List X) → Result ℕ (Refusal TextFault) → Type 0
 Adds view reader old new before after (Ok count) = HasAdded view reader old new before after count
 Adds view reader old new before after (Err NoMemory) = Unit {0}
-Adds view reader old new before after (Err Wrong) = reader old.rest.now ≡ refused new.rest.now
+Adds view reader old new before after (Err (Fault Wrong)) = reader old.rest.now ≡ refused new.rest.now
 
 -- ---- lines
 
 -- a line that is no step
-abbrev pub ParsesLine : Reader spec.Line → (old new : Cursor) → Result Line Stopped → Type 0
+abbrev pub ParsesLine : Reader spec.Line → (old new : Cursor) → Result Line (Refusal TextFault) → Type 0
 ParsesLine reader old new (Ok line) = (reader old.rest.now ≡ given (line_of line) new.rest.now) × (is_step line ≡ false)
 ParsesLine reader old new (Err NoMemory) = Unit {0}
-ParsesLine reader old new (Err Wrong) = reader old.rest.now ≡ refused new.rest.now
+ParsesLine reader old new (Err (Fault Wrong)) = reader old.rest.now ≡ refused new.rest.now
 
 -- a line, whose literals and hints were added to the lists
 pub record IsAdded (reader : Reader spec.Line) (old new : Cursor) (before after : Logs) (line : Line) : Type 0 where
@@ -61,7 +63,7 @@ pub record IsAdded (reader : Reader spec.Line) (old new : Cursor) (before after 
   pub hints_count : length hints ≡ hints_in line
   pub read : reader old.rest.now ≡ given (line_at line literals hints) new.rest.now
 
-abbrev pub AddsLine : Reader spec.Line → (old new : Cursor) → (before after : Logs) → Result Line Stopped → Type 0
+abbrev pub AddsLine : Reader spec.Line → (old new : Cursor) → (before after : Logs) → Result Line (Refusal TextFault) → Type 0
 AddsLine reader old new before after (Ok line) = IsAdded reader old new before after line
 AddsLine reader old new before after (Err NoMemory) = Unit {0}
-AddsLine reader old new before after (Err Wrong) = reader old.rest.now ≡ refused new.rest.now
+AddsLine reader old new before after (Err (Fault Wrong)) = reader old.rest.now ≡ refused new.rest.now

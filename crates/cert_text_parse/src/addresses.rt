@@ -5,7 +5,8 @@ ghost use Rattle.cert_text_laws.specs.Readers as readers;
 ghost use Rattle.cert_text_parse.specs.Outcomes.{Parses, next_hexadecimal, Takes};
 
 use crate::cursor::Cursor;
-use crate::stopped::Stopped;
+use crate::stopped::TextFault;
+use attempt::Refusal;
 
 // The value of the hexadecimal digit that comes next.
 fn digit_of(text: &[u8]) -> Option<u32>
@@ -27,7 +28,7 @@ fn digit_of(text: &[u8]) -> Option<u32>
 
 impl<'t> Cursor<'t> {
     // One digit.
-    fn hexadecimal(&mut self) -> Result<u32, Stopped>
+    fn hexadecimal(&mut self) -> Result<u32, Refusal<TextFault>>
         ensures { Takes 1 16 self.old self.new result }
     {
         match digit_of(self.rest) {
@@ -35,12 +36,12 @@ impl<'t> Cursor<'t> {
                 self.rest = &self.rest[1..];
                 Ok(value)
             }
-            None => Err(Stopped::Wrong),
+            None => Err(Refusal::Fault(TextFault::Wrong)),
         }
     }
 
     // Two digits.
-    fn byte(&mut self) -> Result<u32, Stopped>
+    fn byte(&mut self) -> Result<u32, Refusal<TextFault>>
         ensures { Takes 2 256 self.old self.new result }
     {
         let high = match self.hexadecimal() {
@@ -55,7 +56,7 @@ impl<'t> Cursor<'t> {
     }
 
     // Four digits.
-    fn half(&mut self) -> Result<u32, Stopped>
+    fn half(&mut self) -> Result<u32, Refusal<TextFault>>
         ensures { Takes 4 65536 self.old self.new result }
     {
         let high = match self.byte() {
@@ -70,7 +71,7 @@ impl<'t> Cursor<'t> {
     }
 
     /// An address.
-    pub fn address(&mut self) -> Result<u32, Stopped>
+    pub fn address(&mut self) -> Result<u32, Refusal<TextFault>>
         ensures { Parses readers.read_address self.old self.new result }
     {
         let high = match self.half() {

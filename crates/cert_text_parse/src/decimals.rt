@@ -5,7 +5,8 @@ ghost use Rattle.cert_text_laws.specs.Readers as readers;
 ghost use Rattle.cert_text_parse.specs.Outcomes.{Parses, next_digit, longer};
 
 use crate::cursor::Cursor;
-use crate::stopped::Stopped;
+use crate::stopped::TextFault;
+use attempt::Refusal;
 
 // The value of the digit that comes next.
 fn digit_of(text: &[u8]) -> Option<u64>
@@ -31,13 +32,13 @@ fn with_digit(value: u64, digit: u64, most: u64) -> Option<u64>
 
 impl<'t> Cursor<'t> {
     // Further digits of a number.
-    fn digits(&mut self, first: u64, most: u64) -> Result<u64, Stopped>
+    fn digits(&mut self, first: u64, most: u64) -> Result<u64, Refusal<TextFault>>
         ensures { Parses (readers.read_digits (suc most) first) self.old self.new result }
     {
         let mut value = first;
         while let Some(digit) = digit_of(self.rest) {
             let Some(next) = with_digit(value, digit, most) else {
-                return Err(Stopped::Wrong);
+                return Err(Refusal::Fault(TextFault::Wrong));
             };
             value = next;
             self.rest = &self.rest[1..];
@@ -46,7 +47,7 @@ impl<'t> Cursor<'t> {
     }
 
     /// A number from `low`, which is 0 or 1, to a maximum.
-    pub fn decimal(&mut self, low: u64, most: u64) -> Result<u64, Stopped>
+    pub fn decimal(&mut self, low: u64, most: u64) -> Result<u64, Refusal<TextFault>>
         ensures { Parses (readers.read_decimal low (suc most)) self.old self.new result }
     {
         match digit_of(self.rest) {
@@ -54,7 +55,7 @@ impl<'t> Cursor<'t> {
                 self.rest = &self.rest[1..];
                 self.digits(first, most)
             }
-            _ => Err(Stopped::Wrong),
+            _ => Err(Refusal::Fault(TextFault::Wrong)),
         }
     }
 }

@@ -5,7 +5,8 @@ ghost use Rattle.cert_text_parse.specs.Outcomes.{Parses};
 ghost use Rattle.cert_text_spec.specs.Certificates.{AProof};
 ghost use Rattle.cert_text_parse.specs.Keywords.{expected_of, words};
 
-use crate::{Cursor, Stopped};
+use crate::{Cursor, TextFault};
+use attempt::Refusal;
 
 /// What is expected in a certificate.
 #[derive(Clone, Copy)]
@@ -130,7 +131,7 @@ static LOG: [(&[u8], Keyword); 1] = [(b"log ", Keyword::Other(Other::Log))];
 static STEP: [(&[u8], Keyword); 1] = [(b"s ", Keyword::Step)];
 
 // The keyword of a rule.
-fn rule_keyword(cursor: &mut Cursor<'_>, room: usize) -> Result<Keyword, Stopped>
+fn rule_keyword(cursor: &mut Cursor<'_>, room: usize) -> Result<Keyword, Refusal<TextFault>>
     ensures { Parses (readers.read_word (words (AProof room))) cursor.old cursor.new result }
 {
     if room == 0 {
@@ -141,7 +142,10 @@ fn rule_keyword(cursor: &mut Cursor<'_>, room: usize) -> Result<Keyword, Stopped
 }
 
 /// The keyword of a line where this is expected.
-pub(crate) fn read_keyword(cursor: &mut Cursor<'_>, expected: Expected) -> Result<Keyword, Stopped>
+pub(crate) fn read_keyword(
+    cursor: &mut Cursor<'_>,
+    expected: Expected,
+) -> Result<Keyword, Refusal<TextFault>>
     ensures { Parses (readers.read_word (words (expected_of expected))) cursor.old cursor.new
         result }
 {

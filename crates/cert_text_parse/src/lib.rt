@@ -31,5 +31,5 @@ pub use lines::{BinaryRestriction, Call, Line, Literal, Logs, Part, SourceRestri
 pub use numbers::{counts, last_number, number, spaced_number};
 pub use parsing::next_line;
 pub use points::{Ending, binary_point, both_points, source_point};
-pub use stopped::Stopped;
+pub use stopped::TextFault;
 pub use terms::term_symbols;

@@ -6,7 +6,8 @@ ghost use Rattle.cert_text_laws.specs.Readers as readers;
 ghost use Rattle.cert_text_parse.specs.Outcomes.{IsNameLength, ParsesName};
 
 use crate::cursor::Cursor;
-use crate::stopped::Stopped;
+use crate::stopped::TextFault;
+use attempt::Refusal;
 
 // A letter or `_`.
 fn begins_name(byte: u8) -> bool
@@ -40,15 +41,15 @@ fn name_length(text: &[u8]) -> usize
 
 impl<'t> Cursor<'t> {
     /// A name.
-    pub fn name(&mut self) -> Result<&'t [u8], Stopped>
+    pub fn name(&mut self) -> Result<&'t [u8], Refusal<TextFault>>
         ensures { ParsesName self.old self.new result }
     {
         let text = self.rest;
         if text.is_empty() {
-            return Err(Stopped::Wrong);
+            return Err(Refusal::Fault(TextFault::Wrong));
         }
         if !begins_name(text[0]) {
-            return Err(Stopped::Wrong);
+            return Err(Refusal::Fault(TextFault::Wrong));
         }
         let n = name_length(text);
         self.rest = &text[n..];

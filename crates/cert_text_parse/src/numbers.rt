@@ -5,14 +5,15 @@ ghost use Rattle.cert_text_laws.specs.Lines as lines;
 ghost use Rattle.cert_text_laws.specs.Parts as parts;
 ghost use Rattle.cert_text_parse.specs.Outcomes.{Parses};
 
-use crate::{Cursor, Stopped};
+use crate::{Cursor, TextFault};
+use attempt::Refusal;
 use proof_tree_spec::Counts;
 
 // The largest number.
 const LARGEST: u64 = 0xffff_ffff;
 
 /// A number.
-pub fn number(cursor: &mut Cursor<'_>) -> Result<u32, Stopped>
+pub fn number(cursor: &mut Cursor<'_>) -> Result<u32, Refusal<TextFault>>
     ensures { Parses parts.read_number cursor.old cursor.new result }
 {
     match cursor.decimal(0, LARGEST) {
@@ -22,7 +23,7 @@ pub fn number(cursor: &mut Cursor<'_>) -> Result<u32, Stopped>
 }
 
 /// A number, and a space.
-pub fn spaced_number(cursor: &mut Cursor<'_>) -> Result<u32, Stopped>
+pub fn spaced_number(cursor: &mut Cursor<'_>) -> Result<u32, Refusal<TextFault>>
     ensures { Parses (parts.read_ended parts.read_number (codes " ")) cursor.old cursor.new result }
 {
     let number = match number(cursor) {
@@ -36,7 +37,7 @@ pub fn spaced_number(cursor: &mut Cursor<'_>) -> Result<u32, Stopped>
 }
 
 /// A number, and a line feed.
-pub fn last_number(cursor: &mut Cursor<'_>) -> Result<u32, Stopped>
+pub fn last_number(cursor: &mut Cursor<'_>) -> Result<u32, Refusal<TextFault>>
     ensures { Parses lines.read_last_number cursor.old cursor.new result }
 {
     let number = match number(cursor) {
@@ -50,7 +51,7 @@ pub fn last_number(cursor: &mut Cursor<'_>) -> Result<u32, Stopped>
 }
 
 /// A count of each side, each with a space after it.
-pub fn counts(cursor: &mut Cursor<'_>) -> Result<Counts, Stopped>
+pub fn counts(cursor: &mut Cursor<'_>) -> Result<Counts, Refusal<TextFault>>
     ensures { Parses parts.read_counts cursor.old cursor.new result }
 {
     let binary = match spaced_number(cursor) {

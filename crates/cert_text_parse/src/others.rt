@@ -11,12 +11,12 @@ ghost use Rattle.cert_text_parse.specs.LineOutcomes.{ParsesLine};
 use crate::keywords::Other;
 use crate::lines::{Line, Part, boxed};
 use crate::rules::boxed_term;
-use crate::{Cursor, Ending, Stopped, binary_point, last_number, source_point};
-use attempt::attempt;
+use crate::{Cursor, Ending, TextFault, binary_point, last_number, source_point};
+use attempt::{Refusal, attempt};
 use std::alloc::Global;
 
 // A name, and the word before the stack.
-fn name<'t>(cursor: &mut Cursor<'t>) -> Result<&'t [u8], Stopped>
+fn name<'t>(cursor: &mut Cursor<'t>) -> Result<&'t [u8], Refusal<TextFault>>
     ensures { ParsesAs (λ name. name.now) (parts.read_ended read_name (codes " stack ")) cursor.old
         cursor.new result }
 {
@@ -28,36 +28,36 @@ fn name<'t>(cursor: &mut Cursor<'t>) -> Result<&'t [u8], Stopped>
 }
 
 // `function`
-fn function_line(alloc: Global, cursor: &mut Cursor<'_>) -> Result<Line, Stopped>
+fn function_line(alloc: Global, cursor: &mut Cursor<'_>) -> Result<Line, Refusal<TextFault>>
     ensures { ParsesLine (lines.read_fields lines.KFunction) cursor.old cursor.new result }
 {
     let name = attempt!(name(cursor));
     let stack = attempt!(last_number(cursor));
-    let name = attempt!(Vec::from_slice(alloc, name), Stopped::NoMemory);
-    let part = attempt!(boxed(alloc, Part { name, stack }), Stopped::NoMemory);
+    let name = attempt!(Vec::from_slice(alloc, name), Refusal::NoMemory);
+    let part = attempt!(boxed(alloc, Part { name, stack }), Refusal::NoMemory);
     Ok(Line::Function(part))
 }
 
 // `inline a`
-fn binary_inline_line(alloc: Global, cursor: &mut Cursor<'_>) -> Result<Line, Stopped>
+fn binary_inline_line(alloc: Global, cursor: &mut Cursor<'_>) -> Result<Line, Refusal<TextFault>>
     ensures { ParsesLine (lines.read_fields lines.KInlineBinary) cursor.old cursor.new result }
 {
     let point = attempt!(binary_point(alloc, cursor, Ending::LineFeed));
-    let point = attempt!(boxed(alloc, point), Stopped::NoMemory);
+    let point = attempt!(boxed(alloc, point), Refusal::NoMemory);
     Ok(Line::InlineBinary(point))
 }
 
 // `inline c`
-fn source_inline_line(alloc: Global, cursor: &mut Cursor<'_>) -> Result<Line, Stopped>
+fn source_inline_line(alloc: Global, cursor: &mut Cursor<'_>) -> Result<Line, Refusal<TextFault>>
     ensures { ParsesLine (lines.read_fields lines.KInlineSource) cursor.old cursor.new result }
 {
     let point = attempt!(source_point(alloc, cursor, Ending::LineFeed));
-    let point = attempt!(boxed(alloc, point), Stopped::NoMemory);
+    let point = attempt!(boxed(alloc, point), Refusal::NoMemory);
     Ok(Line::InlineSource(point))
 }
 
 // `rel`
-fn relation_line(alloc: Global, cursor: &mut Cursor<'_>) -> Result<Line, Stopped>
+fn relation_line(alloc: Global, cursor: &mut Cursor<'_>) -> Result<Line, Refusal<TextFault>>
     ensures { ParsesLine (lines.read_fields lines.KRelation) cursor.old cursor.new result }
 {
     match boxed_term(alloc, cursor) {
@@ -67,7 +67,7 @@ fn relation_line(alloc: Global, cursor: &mut Cursor<'_>) -> Result<Line, Stopped
 }
 
 // `log`
-fn log_line(cursor: &mut Cursor<'_>) -> Result<Line, Stopped>
+fn log_line(cursor: &mut Cursor<'_>) -> Result<Line, Refusal<TextFault>>
     ensures { ParsesLine (lines.read_fields lines.KLog) cursor.old cursor.new result }
 {
     match last_number(cursor) {
@@ -81,7 +81,7 @@ pub(crate) fn other_line(
     alloc: Global,
     cursor: &mut Cursor<'_>,
     other: Other,
-) -> Result<Line, Stopped>
+) -> Result<Line, Refusal<TextFault>>
     ensures { ParsesLine (lines.read_fields (other_of other)) cursor.old cursor.new result }
 {
     match other {

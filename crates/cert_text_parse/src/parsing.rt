@@ -9,7 +9,8 @@ use crate::lines::{Line, Logs};
 use crate::others::other_line;
 use crate::rules::rule_line;
 use crate::steps::step_line;
-use crate::{Cursor, Stopped};
+use crate::{Cursor, TextFault};
+use attempt::Refusal;
 use std::alloc::Global;
 
 // A line after its keyword.
@@ -18,7 +19,7 @@ fn after_keyword(
     cursor: &mut Cursor<'_>,
     keyword: Keyword,
     logs: &mut Logs,
-) -> Result<Line, Stopped>
+) -> Result<Line, Refusal<TextFault>>
     ensures { AddsLine (lines.read_fields (keyword_of keyword)) cursor.old cursor.new logs.old
         logs.new result }
 {
@@ -35,7 +36,7 @@ pub fn next_line(
     cursor: &mut Cursor<'_>,
     expected: Expected,
     logs: &mut Logs,
-) -> Result<Line, Stopped>
+) -> Result<Line, Refusal<TextFault>>
     ensures { AddsLine (lines.read_line (expected_of expected)) cursor.old cursor.new logs.old
         logs.new result }
 {

@@ -6,7 +6,8 @@ ghost use Rattle.cert_text_laws.specs.Readers as readers;
 ghost use Rattle.cert_text_laws.specs.Heads.{words_at};
 ghost use Rattle.cert_text_parse.specs.Outcomes.{Parses};
 
-use crate::{Cursor, Stopped};
+use crate::{Cursor, TextFault};
+use attempt::Refusal;
 use cert_text_spec::{Operator, Symbol};
 use term_core_spec::Width;
 
@@ -126,21 +127,24 @@ static ATOMS: [(&[u8], Symbol); 16] = [
 ];
 
 /// The word of a symbol where a term begins.
-pub(crate) fn first_word(cursor: &mut Cursor<'_>) -> Result<Symbol, Stopped>
+pub(crate) fn first_word(cursor: &mut Cursor<'_>) -> Result<Symbol, Refusal<TextFault>>
     ensures { Parses (readers.read_word (words_at (ATerm 128))) cursor.old cursor.new result }
 {
     cursor.one_of(&FIRSTS)
 }
 
 /// The word of a symbol where a call's variable is expected.
-pub(crate) fn variable_word(cursor: &mut Cursor<'_>) -> Result<Symbol, Stopped>
+pub(crate) fn variable_word(cursor: &mut Cursor<'_>) -> Result<Symbol, Refusal<TextFault>>
     ensures { Parses (readers.read_word (words_at AVariable)) cursor.old cursor.new result }
 {
     cursor.one_of(&VARIABLES)
 }
 
 /// The word of a symbol where an argument can be a term with so many operators on a path.
-pub(crate) fn argument_word(cursor: &mut Cursor<'_>, room: usize) -> Result<Symbol, Stopped>
+pub(crate) fn argument_word(
+    cursor: &mut Cursor<'_>,
+    room: usize,
+) -> Result<Symbol, Refusal<TextFault>>
     ensures { Parses (readers.read_word (words_at (Arguments room))) cursor.old cursor.new result }
 {
     if room == 0 {

@@ -11,7 +11,8 @@ ghost use Rattle.cert_text_parse.specs.PartOutcomes.{read_place_at};
 ghost use Rattle.cert_text_parse.specs.PartOutcomes.{ParsesBinary, ParsesSource};
 
 use crate::numbers::number;
-use crate::{Cursor, Stopped};
+use crate::{Cursor, TextFault};
+use attempt::Refusal;
 use proof_tree::{BinaryPoint, Points, SourcePoint};
 use proof_tree_spec::Place;
 use std::alloc::Global;
@@ -26,7 +27,7 @@ pub enum Ending {
 }
 
 // Whether a point ends: `/` goes on.
-fn ends_after_call(cursor: &mut Cursor<'_>, end: Ending) -> Result<bool, Stopped>
+fn ends_after_call(cursor: &mut Cursor<'_>, end: Ending) -> Result<bool, Refusal<TextFault>>
     ensures { Parses (parts.read_slash (ending_text end)) cursor.old cursor.new result }
 {
     match end {
@@ -36,7 +37,7 @@ fn ends_after_call(cursor: &mut Cursor<'_>, end: Ending) -> Result<bool, Stopped
 }
 
 // Whether a point ends after a place of a loop: it does.
-fn ends_after_loop(cursor: &mut Cursor<'_>, end: Ending) -> Result<bool, Stopped>
+fn ends_after_loop(cursor: &mut Cursor<'_>, end: Ending) -> Result<bool, Refusal<TextFault>>
     ensures { Parses (parts.read_place_end (ending_text end) (place.Test 0)) cursor.old cursor.new
         result }
 {
@@ -47,7 +48,7 @@ fn ends_after_loop(cursor: &mut Cursor<'_>, end: Ending) -> Result<bool, Stopped
 }
 
 // An address, and whether it is the last.
-fn address_step(cursor: &mut Cursor<'_>, end: Ending) -> Result<(u32, bool), Stopped>
+fn address_step(cursor: &mut Cursor<'_>, end: Ending) -> Result<(u32, bool), Refusal<TextFault>>
     ensures { Parses (read_address_at end) cursor.old cursor.new result }
 {
     let address = match cursor.address() {
@@ -61,7 +62,7 @@ fn address_step(cursor: &mut Cursor<'_>, end: Ending) -> Result<(u32, bool), Sto
 }
 
 // The letter of a place, which has no number yet.
-fn letter(cursor: &mut Cursor<'_>) -> Result<Place, Stopped>
+fn letter(cursor: &mut Cursor<'_>) -> Result<Place, Refusal<TextFault>>
     ensures { Parses (readers.read_word parts.place_words) cursor.old cursor.new result }
 {
     cursor.one_of(&[
@@ -83,7 +84,7 @@ fn numbered(place: Place, number: u32) -> Place
 }
 
 // A place.
-fn place(cursor: &mut Cursor<'_>) -> Result<Place, Stopped>
+fn place(cursor: &mut Cursor<'_>) -> Result<Place, Refusal<TextFault>>
     ensures { Parses parts.read_place cursor.old cursor.new result }
 {
     let letter = match letter(cursor) {
@@ -97,7 +98,11 @@ fn place(cursor: &mut Cursor<'_>) -> Result<Place, Stopped>
 }
 
 // Whether a point ends after a place: only after a call it can go on.
-fn ends_after(cursor: &mut Cursor<'_>, place: Place, end: Ending) -> Result<bool, Stopped>
+fn ends_after(
+    cursor: &mut Cursor<'_>,
+    place: Place,
+    end: Ending,
+) -> Result<bool, Refusal<TextFault>>
     ensures { Parses (parts.read_place_end (ending_text end) place) cursor.old cursor.new result }
 {
     match place {
@@ -107,7 +112,7 @@ fn ends_after(cursor: &mut Cursor<'_>, place: Place, end: Ending) -> Result<bool
 }
 
 // A place, and whether it is the last.
-fn place_step(cursor: &mut Cursor<'_>, end: Ending) -> Result<(Place, bool), Stopped>
+fn place_step(cursor: &mut Cursor<'_>, end: Ending) -> Result<(Place, bool), Refusal<TextFault>>
     ensures { Parses (read_place_at end) cursor.old cursor.new result }
 {
     let place = match place(cursor) {
@@ -122,7 +127,11 @@ fn place_step(cursor: &mut Cursor<'_>, end: Ending) -> Result<(Place, bool), Sto
 
 // A point of the binary, and what ends it: the addresses of the calls are added to a path, and that
 // of the instruction is given.
-fn binary_path(cursor: &mut Cursor<'_>, path: &mut Vec<u32>, end: Ending) -> Result<u32, Stopped>
+fn binary_path(
+    cursor: &mut Cursor<'_>,
+    path: &mut Vec<u32>,
+    end: Ending,
+) -> Result<u32, Refusal<TextFault>>
     requires { path.old.items ≡ [] }
     ensures { ParsesBinary end path.new.items cursor.old cursor.new result }
 {
@@ -143,7 +152,7 @@ pub fn binary_point(
     alloc: Global,
     cursor: &mut Cursor<'_>,
     end: Ending,
-) -> Result<BinaryPoint, Stopped>
+) -> Result<BinaryPoint, Refusal<TextFault>>
     ensures { ParsesAs view.binary_point_of (parts.read_binary (ending_text end)) cursor.old
         cursor.new result }
 {
@@ -165,7 +174,11 @@ fn number_of(place: Place) -> u32
 
 // A point of the source, and what ends it: the numbers of the calls are added to a path, and the
 // place is given.
-fn source_path(cursor: &mut Cursor<'_>, path: &mut Vec<u32>, end: Ending) -> Result<Place, Stopped>
+fn source_path(
+    cursor: &mut Cursor<'_>,
+    path: &mut Vec<u32>,
+    end: Ending,
+) -> Result<Place, Refusal<TextFault>>
     requires { path.old.items ≡ [] }
     ensures { ParsesSource end path.new.items cursor.old cursor.new result }
 {
@@ -186,7 +199,7 @@ pub fn source_point(
     alloc: Global,
     cursor: &mut Cursor<'_>,
     end: Ending,
-) -> Result<SourcePoint, Stopped>
+) -> Result<SourcePoint, Refusal<TextFault>>
     ensures { ParsesAs view.source_point_of (parts.read_source (ending_text end)) cursor.old
         cursor.new result }
 {
@@ -198,7 +211,7 @@ pub fn source_point(
 }
 
 /// A point of each side, each with a space after it.
-pub fn both_points(alloc: Global, cursor: &mut Cursor<'_>) -> Result<Points, Stopped>
+pub fn both_points(alloc: Global, cursor: &mut Cursor<'_>) -> Result<Points, Refusal<TextFault>>
     ensures { ParsesAs view.points_of parts.read_points cursor.old cursor.new result }
 {
     let binary = match binary_point(alloc, cursor, Ending::Space) {

@@ -13,16 +13,16 @@ ghost use Rattle.cert_text_parse.specs.LineOutcomes.{read_split_numbers};
 use crate::keywords::Rule;
 use crate::lines::{BinaryRestriction, Call, Line, SourceRestriction, Split, boxed};
 use crate::{
-    Cursor, Ending, Stopped, binary_point, both_points, counts, last_number, source_point,
+    Cursor, Ending, TextFault, binary_point, both_points, counts, last_number, source_point,
     spaced_number, term_symbols,
 };
-use attempt::attempt;
+use attempt::{Refusal, attempt};
 use cert_text_spec::Symbol;
 use proof_tree_spec::Counts;
 use std::alloc::Global;
 
 // A term, and a line feed.
-fn last_term(alloc: Global, cursor: &mut Cursor<'_>) -> Result<Vec<Symbol>, Stopped>
+fn last_term(alloc: Global, cursor: &mut Cursor<'_>) -> Result<Vec<Symbol>, Refusal<TextFault>>
     ensures { ParsesAs (λ symbols. symbols.items) (parts.read_ended read_term lines.line_feed)
         cursor.old cursor.new result }
 {
@@ -37,17 +37,17 @@ fn last_term(alloc: Global, cursor: &mut Cursor<'_>) -> Result<Vec<Symbol>, Stop
 pub(crate) fn boxed_term(
     alloc: Global,
     cursor: &mut Cursor<'_>,
-) -> Result<Box<Vec<Symbol>>, Stopped>
+) -> Result<Box<Vec<Symbol>>, Refusal<TextFault>>
     ensures { ParsesAs (λ symbols. symbols.value.items) (parts.read_ended read_term
         lines.line_feed) cursor.old cursor.new result }
 {
     let symbols = attempt!(last_term(alloc, cursor));
-    let symbols = attempt!(boxed(alloc, symbols), Stopped::NoMemory);
+    let symbols = attempt!(boxed(alloc, symbols), Refusal::NoMemory);
     Ok(symbols)
 }
 
 // `leaf`
-fn leaf_line(cursor: &mut Cursor<'_>) -> Result<Line, Stopped>
+fn leaf_line(cursor: &mut Cursor<'_>) -> Result<Line, Refusal<TextFault>>
     ensures { ParsesLine (lines.read_fields lines.KLeaf) cursor.old cursor.new result }
 {
     match last_number(cursor) {
@@ -57,7 +57,7 @@ fn leaf_line(cursor: &mut Cursor<'_>) -> Result<Line, Stopped>
 }
 
 // `case`
-fn case_line(alloc: Global, cursor: &mut Cursor<'_>) -> Result<Line, Stopped>
+fn case_line(alloc: Global, cursor: &mut Cursor<'_>) -> Result<Line, Refusal<TextFault>>
     ensures { ParsesLine (lines.read_fields lines.KCase) cursor.old cursor.new result }
 {
     match boxed_term(alloc, cursor) {
@@ -67,29 +67,35 @@ fn case_line(alloc: Global, cursor: &mut Cursor<'_>) -> Result<Line, Stopped>
 }
 
 // `restrict a`
-fn binary_restriction_line(alloc: Global, cursor: &mut Cursor<'_>) -> Result<Line, Stopped>
+fn binary_restriction_line(
+    alloc: Global,
+    cursor: &mut Cursor<'_>,
+) -> Result<Line, Refusal<TextFault>>
     ensures { ParsesLine (lines.read_fields lines.KRestrictBinary) cursor.old cursor.new result }
 {
     let point = attempt!(binary_point(alloc, cursor, Ending::Space));
     let count = attempt!(last_number(cursor));
     let restriction = BinaryRestriction { point, count };
-    let restriction = attempt!(boxed(alloc, restriction), Stopped::NoMemory);
+    let restriction = attempt!(boxed(alloc, restriction), Refusal::NoMemory);
     Ok(Line::RestrictBinary(restriction))
 }
 
 // `restrict c`
-fn source_restriction_line(alloc: Global, cursor: &mut Cursor<'_>) -> Result<Line, Stopped>
+fn source_restriction_line(
+    alloc: Global,
+    cursor: &mut Cursor<'_>,
+) -> Result<Line, Refusal<TextFault>>
     ensures { ParsesLine (lines.read_fields lines.KRestrictSource) cursor.old cursor.new result }
 {
     let point = attempt!(source_point(alloc, cursor, Ending::Space));
     let count = attempt!(last_number(cursor));
     let restriction = SourceRestriction { point, count };
-    let restriction = attempt!(boxed(alloc, restriction), Stopped::NoMemory);
+    let restriction = attempt!(boxed(alloc, restriction), Refusal::NoMemory);
     Ok(Line::RestrictSource(restriction))
 }
 
 // The counts of a cut, and the number of lines of its relation.
-fn split_numbers(cursor: &mut Cursor<'_>) -> Result<(Counts, (Counts, u32)), Stopped>
+fn split_numbers(cursor: &mut Cursor<'_>) -> Result<(Counts, (Counts, u32)), Refusal<TextFault>>
     ensures { Parses read_split_numbers cursor.old cursor.new result }
 {
     let enter = attempt!(counts(cursor));
@@ -101,7 +107,7 @@ fn split_numbers(cursor: &mut Cursor<'_>) -> Result<(Counts, (Counts, u32)), Sto
 }
 
 // `split`
-fn split_line(alloc: Global, cursor: &mut Cursor<'_>) -> Result<Line, Stopped>
+fn split_line(alloc: Global, cursor: &mut Cursor<'_>) -> Result<Line, Refusal<TextFault>>
     ensures { ParsesLine (lines.read_fields lines.KSplit) cursor.old cursor.new result }
 {
     let points = attempt!(both_points(alloc, cursor));
@@ -112,12 +118,12 @@ fn split_line(alloc: Global, cursor: &mut Cursor<'_>) -> Result<Line, Stopped>
         step,
         relations,
     };
-    let split = attempt!(boxed(alloc, split), Stopped::NoMemory);
+    let split = attempt!(boxed(alloc, split), Refusal::NoMemory);
     Ok(Line::Split(split))
 }
 
 // The counts of a call, and the numbers of lines of its relations.
-fn call_numbers(cursor: &mut Cursor<'_>) -> Result<(Counts, (u32, u32)), Stopped>
+fn call_numbers(cursor: &mut Cursor<'_>) -> Result<(Counts, (u32, u32)), Refusal<TextFault>>
     ensures { Parses read_call_numbers cursor.old cursor.new result }
 {
     let counts = attempt!(counts(cursor));
@@ -129,7 +135,7 @@ fn call_numbers(cursor: &mut Cursor<'_>) -> Result<(Counts, (u32, u32)), Stopped
 }
 
 // `call`
-fn call_line(alloc: Global, cursor: &mut Cursor<'_>) -> Result<Line, Stopped>
+fn call_line(alloc: Global, cursor: &mut Cursor<'_>) -> Result<Line, Refusal<TextFault>>
     ensures { ParsesLine (lines.read_fields lines.KCall) cursor.old cursor.new result }
 {
     let points = attempt!(both_points(alloc, cursor));
@@ -140,12 +146,16 @@ fn call_line(alloc: Global, cursor: &mut Cursor<'_>) -> Result<Line, Stopped>
         before,
         after,
     };
-    let call = attempt!(boxed(alloc, call), Stopped::NoMemory);
+    let call = attempt!(boxed(alloc, call), Refusal::NoMemory);
     Ok(Line::Call(call))
 }
 
 /// The line of a rule.
-pub(crate) fn rule_line(alloc: Global, cursor: &mut Cursor<'_>, rule: Rule) -> Result<Line, Stopped>
+pub(crate) fn rule_line(
+    alloc: Global,
+    cursor: &mut Cursor<'_>,
+    rule: Rule,
+) -> Result<Line, Refusal<TextFault>>
     ensures { ParsesLine (lines.read_fields (rule_of rule)) cursor.old cursor.new result }
 {
     match rule {

@@ -10,14 +10,14 @@ ghost use Rattle.cert_text_parse.specs.Views.{literal_of};
 ghost use Rattle.cert_text_parse.specs.LineOutcomes.{Adds, AddsLine, read_negated, read_plain};
 
 use crate::lines::{Line, Literal, Logs};
-use crate::{Cursor, Stopped, number, spaced_number};
-use attempt::attempt;
+use crate::{Cursor, TextFault, number, spaced_number};
+use attempt::{Refusal, attempt};
 
 // The largest number.
 const LARGEST: u64 = 0xffff_ffff;
 
 // A number from 1.
-fn positive(cursor: &mut Cursor<'_>) -> Result<u32, Stopped>
+fn positive(cursor: &mut Cursor<'_>) -> Result<u32, Refusal<TextFault>>
     ensures { Parses parts.read_positive cursor.old cursor.new result }
 {
     match cursor.decimal(1, LARGEST) {
@@ -27,7 +27,7 @@ fn positive(cursor: &mut Cursor<'_>) -> Result<u32, Stopped>
 }
 
 // A number from 1, and a space.
-fn spaced_positive(cursor: &mut Cursor<'_>) -> Result<u32, Stopped>
+fn spaced_positive(cursor: &mut Cursor<'_>) -> Result<u32, Refusal<TextFault>>
     ensures { Parses (parts.read_ended parts.read_positive (codes " ")) cursor.old cursor.new
         result }
 {
@@ -39,7 +39,7 @@ fn spaced_positive(cursor: &mut Cursor<'_>) -> Result<u32, Stopped>
 }
 
 // A negated literal.
-fn negated(cursor: &mut Cursor<'_>) -> Result<Option<Literal>, Stopped>
+fn negated(cursor: &mut Cursor<'_>) -> Result<Option<Literal>, Refusal<TextFault>>
     ensures { ParsesAs (option_map literal_of) read_negated cursor.old cursor.new result }
 {
     match cursor.one_of(&[(b"-".as_slice(), ())]) {
@@ -69,7 +69,7 @@ fn unless_zero(variable: u32) -> Option<Literal>
 }
 
 // A literal that is not negated, or the zero after the literals.
-fn plain(cursor: &mut Cursor<'_>) -> Result<Option<Literal>, Stopped>
+fn plain(cursor: &mut Cursor<'_>) -> Result<Option<Literal>, Refusal<TextFault>>
     ensures { ParsesAs (option_map literal_of) read_plain cursor.old cursor.new result }
 {
     match spaced_number(cursor) {
@@ -79,7 +79,7 @@ fn plain(cursor: &mut Cursor<'_>) -> Result<Option<Literal>, Stopped>
 }
 
 // A literal, or the zero after the literals.
-fn literal(cursor: &mut Cursor<'_>) -> Result<Option<Literal>, Stopped>
+fn literal(cursor: &mut Cursor<'_>) -> Result<Option<Literal>, Refusal<TextFault>>
     ensures { ParsesAs (option_map literal_of) (parts.read_literal (tt {0})) cursor.old cursor.new
         result }
 {
@@ -90,7 +90,7 @@ fn literal(cursor: &mut Cursor<'_>) -> Result<Option<Literal>, Stopped>
 }
 
 // The literals of a step are added to a list: how many.
-fn literals(cursor: &mut Cursor<'_>, list: &mut Vec<Literal>) -> Result<usize, Stopped>
+fn literals(cursor: &mut Cursor<'_>, list: &mut Vec<Literal>) -> Result<usize, Refusal<TextFault>>
     ensures { Adds literal_of parts.read_literals cursor.old cursor.new list.old.items
         list.new.items result }
 {
@@ -108,7 +108,7 @@ fn literals(cursor: &mut Cursor<'_>, list: &mut Vec<Literal>) -> Result<usize, S
 }
 
 // What ends a hint: a line feed after zero.
-fn hint_end(cursor: &mut Cursor<'_>, hint: u32) -> Result<(), Stopped>
+fn hint_end(cursor: &mut Cursor<'_>, hint: u32) -> Result<(), Refusal<TextFault>>
     ensures { Parses (parts.read_text (parts.hint_end hint)) cursor.old cursor.new result }
 {
     if hint == 0 {
@@ -119,7 +119,7 @@ fn hint_end(cursor: &mut Cursor<'_>, hint: u32) -> Result<(), Stopped>
 }
 
 // A hint, or the zero after the hints.
-fn hint(cursor: &mut Cursor<'_>) -> Result<u32, Stopped>
+fn hint(cursor: &mut Cursor<'_>) -> Result<u32, Refusal<TextFault>>
     ensures { Parses (parts.read_hint (tt {0})) cursor.old cursor.new result }
 {
     let hint = attempt!(number(cursor));
@@ -130,7 +130,7 @@ fn hint(cursor: &mut Cursor<'_>) -> Result<u32, Stopped>
 }
 
 // The hints of a step are added to a list: how many.
-fn hints(cursor: &mut Cursor<'_>, list: &mut Vec<u32>) -> Result<usize, Stopped>
+fn hints(cursor: &mut Cursor<'_>, list: &mut Vec<u32>) -> Result<usize, Refusal<TextFault>>
     ensures { Adds (λ n. n) parts.read_hints cursor.old cursor.new list.old.items list.new.items
         result }
 {
@@ -148,7 +148,10 @@ fn hints(cursor: &mut Cursor<'_>, list: &mut Vec<u32>) -> Result<usize, Stopped>
 }
 
 /// The step of a log, after its keyword; its literals and hints are added to the lists.
-pub(crate) fn step_line(cursor: &mut Cursor<'_>, logs: &mut Logs) -> Result<Line, Stopped>
+pub(crate) fn step_line(
+    cursor: &mut Cursor<'_>,
+    logs: &mut Logs,
+) -> Result<Line, Refusal<TextFault>>
     ensures { AddsLine (lines.read_fields lines.KStep) cursor.old cursor.new logs.old logs.new
         result }
 {

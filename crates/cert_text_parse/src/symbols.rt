@@ -9,7 +9,8 @@ ghost use Rattle.cert_text_parse.specs.Terms.{expected_of, is_plain, read_after}
 
 use crate::numbers::number;
 use crate::part_words::{argument_word, first_word, variable_word};
-use crate::{Cursor, Stopped};
+use crate::{Cursor, TextFault};
+use attempt::Refusal;
 use cert_text_spec::{Operator, Symbol};
 use term_core_spec::Width;
 
@@ -25,17 +26,17 @@ pub(crate) enum Expected {
 }
 
 // No digit comes next.
-fn no_digit(cursor: &mut Cursor<'_>) -> Result<(), Stopped>
+fn no_digit(cursor: &mut Cursor<'_>) -> Result<(), Refusal<TextFault>>
     ensures { Parses heads.read_no_digit cursor.old cursor.new result }
 {
     match cursor.rest {
-        [first, ..] if first.is_ascii_digit() => Err(Stopped::Wrong),
+        [first, ..] if first.is_ascii_digit() => Err(Refusal::Fault(TextFault::Wrong)),
         _ => Ok(()),
     }
 }
 
 // The number of a call, `/`, and no digit.
-fn call(cursor: &mut Cursor<'_>) -> Result<u32, Stopped>
+fn call(cursor: &mut Cursor<'_>) -> Result<u32, Refusal<TextFault>>
     ensures { Parses heads.read_call cursor.old cursor.new result }
 {
     let number = match number(cursor) {
@@ -91,7 +92,7 @@ fn largest(width: Width) -> u64
 }
 
 // A symbol that is no constant and no call, of which the word was read.
-fn plain_after_word(cursor: &mut Cursor<'_>, word: Symbol) -> Result<Symbol, Stopped>
+fn plain_after_word(cursor: &mut Cursor<'_>, word: Symbol) -> Result<Symbol, Refusal<TextFault>>
     requires { is_plain word ≡ true }
     ensures { Parses (read_after word) cursor.old cursor.new result }
 {
@@ -109,7 +110,7 @@ fn plain_after_word(cursor: &mut Cursor<'_>, word: Symbol) -> Result<Symbol, Sto
 }
 
 // A symbol, of which the word was read.
-fn after_word(cursor: &mut Cursor<'_>, word: Symbol) -> Result<Symbol, Stopped>
+fn after_word(cursor: &mut Cursor<'_>, word: Symbol) -> Result<Symbol, Refusal<TextFault>>
     ensures { Parses (read_after word) cursor.old cursor.new result }
 {
     match word {
@@ -126,7 +127,7 @@ fn after_word(cursor: &mut Cursor<'_>, word: Symbol) -> Result<Symbol, Stopped>
 }
 
 // The word of a symbol where this is expected.
-fn word(cursor: &mut Cursor<'_>, expected: Expected) -> Result<Symbol, Stopped>
+fn word(cursor: &mut Cursor<'_>, expected: Expected) -> Result<Symbol, Refusal<TextFault>>
     ensures { Parses (readers.read_word (heads.words_at (expected_of expected))) cursor.old
         cursor.new result }
 {
@@ -168,7 +169,10 @@ fn numbered_operator(operator: Operator, number: u32) -> Operator
 }
 
 /// A symbol where this is expected.
-pub(crate) fn symbol(cursor: &mut Cursor<'_>, expected: Expected) -> Result<Symbol, Stopped>
+pub(crate) fn symbol(
+    cursor: &mut Cursor<'_>,
+    expected: Expected,
+) -> Result<Symbol, Refusal<TextFault>>
     ensures { Parses (heads.read_symbol (expected_of expected)) cursor.old cursor.new result }
 {
     let word = match word(cursor, expected) {

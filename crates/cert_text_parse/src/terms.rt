@@ -7,7 +7,8 @@ ghost use Rattle.cert_text_parse.specs.PartOutcomes.{ParsesAs};
 ghost use Rattle.cert_text_parse.specs.Terms.{IsTop, next};
 
 use crate::symbols::{Expected, symbol};
-use crate::{Cursor, Stopped};
+use crate::{Cursor, TextFault};
+use attempt::Refusal;
 use cert_text_spec::Symbol;
 use std::alloc::Global;
 use tv_limits::NESTING_LIMIT;
@@ -72,7 +73,10 @@ impl Going {
 }
 
 // The symbols of a term are added to a list.
-fn symbols_into(cursor: &mut Cursor<'_>, symbols: &mut Vec<Symbol>) -> Result<(), Stopped>
+fn symbols_into(
+    cursor: &mut Cursor<'_>,
+    symbols: &mut Vec<Symbol>,
+) -> Result<(), Refusal<TextFault>>
     requires { symbols.old.items ≡ [] }
     ensures { ParsesAs (λ _. symbols.new.items) read_term cursor.old cursor.new result }
 {
@@ -92,7 +96,10 @@ fn symbols_into(cursor: &mut Cursor<'_>, symbols: &mut Vec<Symbol>) -> Result<()
 }
 
 /// A term: its symbols in the order of the text.
-pub fn term_symbols(alloc: Global, cursor: &mut Cursor<'_>) -> Result<Vec<Symbol>, Stopped>
+pub fn term_symbols(
+    alloc: Global,
+    cursor: &mut Cursor<'_>,
+) -> Result<Vec<Symbol>, Refusal<TextFault>>
     ensures { ParsesAs (λ symbols. symbols.items) read_term cursor.old cursor.new result }
 {
     let mut symbols = Vec::new(alloc);

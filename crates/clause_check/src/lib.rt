@@ -13,4 +13,4 @@ mod stamps;
 pub use clause_check_spec::StepFaultKind;
 pub use cnf_core::Literal;
 pub use hints::StepFault;
-pub use log::{Log, StepError};
+pub use log::Log;

@@ -8,39 +8,18 @@ ghost use Rattle.clause_check.specs.declared.hints.StepFault.{StepFault};
 
 use crate::hints::{StepFault, follows};
 use crate::stamps::Stamps;
+use attempt::Refusal;
 use cnf_core::{ClauseList, Cnf, Literal};
 use std::alloc::{AllocError, Global};
 use std::marker::Model;
-use thiserror::Error;
 
-/// Why a step is not added.
-#[derive(Clone, Copy, Debug, PartialEq, Eq, Error)]
-pub enum StepError {
-    /// It doesn't follow.
-    #[error(transparent)]
-    Fault(StepFault),
-    /// Out of memory.
-    #[error("out of memory")]
-    NoMemory,
-}
-
-impl From<AllocError> for StepError {
-    ghost use Rattle.clause_check.specs.declared.log.StepError.TheVariants.{NoMemory};
-
-    ghost from_gives = { λ _ error. error ≡ NoMemory };
-
-    fn from(_: AllocError) -> Self {
-        StepError::NoMemory
-    }
-}
-
-impl From<StepFault> for StepError {
-    ghost use Rattle.clause_check.specs.declared.log.StepError.TheVariants.{Fault};
+impl From<StepFault> for Refusal<StepFault> {
+    ghost use Rattle.attempt.specs.declared.refusal.Refusal.TheVariants.{Fault};
 
     ghost from_gives = { λ fault error. error ≡ Fault fault };
 
     fn from(fault: StepFault) -> Self {
-        StepError::Fault(fault)
+        Refusal::Fault(fault)
     }
 }
 
@@ -97,17 +76,17 @@ impl Log {
     /// Adds a step with these literals, if it follows by these hints (a RUP step, as in LRAT).
     /// Hints are numbers of clauses, counted from 1, the steps after the clauses. Work is linear in
     /// the literals, in the hints, and in the literals of their clauses.
-    pub fn step(&mut self, literals: &[Literal], hints: &[usize]) -> Result<(), StepError>
+    pub fn step(&mut self, literals: &[Literal], hints: &[usize]) -> Result<(), Refusal<StepFault>>
         ensures follows { OnOk result (outcome self.old.cnf.variables
             (clauses_of self.old) literals.now hints.now ≡ Follows) }
         ensures fault { (hint : ℕ) (kind : StepFaultKind) →
-            (result ≡ Err (StepError.Fault (record { hint = hint; kind = kind })))
+            (result ≡ Err (Refusal.Fault (record { hint = hint; kind = kind })))
             ↔ (outcome self.old.cnf.variables (clauses_of self.old) literals.now hints.now
             ≡ Refused hint kind) }
         ensures cnf { self.new.cnf ≡ self.old.cnf }
         ensures added { OnOk result (self.new.added ≡ self.old.added ++ literals.now ∷ []) }
         ensures refused { OnErr result (self.new.added ≡ self.old.added) }
-        ensures as_before { (fault : StepFault) → result ≡ Err (StepError.Fault fault)
+        ensures as_before { (fault : StepFault) → result ≡ Err (Refusal.Fault fault)
             → self.new ≡ self.old }
 
         // A step that follows takes no memory where there is room for it.

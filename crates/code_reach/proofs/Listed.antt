@@ -21,8 +21,9 @@ use Rattle.code_reach.specs.Flows.{is_among, fault_among}
 use Rattle.code_reach.specs.Growth.{IsPlace, AreTargets}
 use Rattle.code_reach.specs.Listing.{AreWords, IsStop, IsListingError}
 use Rattle.code_reach.specs.Found.{IsCode, IsCodeError}
-use Rattle.code_reach.specs.declared.faults.CodeError.{CodeError}
-use Rattle.code_reach.specs.declared.faults.CodeError.TheVariants.{Fault, NoMemory}
+use Rattle.attempt.specs.declared.refusal.Refusal.{Refusal}
+use Rattle.attempt.specs.declared.refusal.Refusal.TheVariants.{Fault, NoMemory}
+use Rattle.code_reach.specs.declared.faults.CodeFault.{CodeFault}
 use Rattle.code_reach.proofs.Places.{place, has-code}
 
 -- no word without fixed bytes
@@ -200,7 +201,7 @@ module _ (image : Image) (entry size : ℕ) (has : HasCode image entry size) (ta
   ok-code list (Ok words) is listed = found-code is (list words) listed
   ok-code list (Err error) is listed = tt
 
-  pub err-code : {T : Type 0} (r : Result T CodeError) → size_at image entry ≡ Some size → IfErr r (IsListingError image entry size targets addresses) → IfErr r (IsCodeError image entry)
+  pub err-code : {T : Type 0} (r : Result T (Refusal CodeFault)) → size_at image entry ≡ Some size → IfErr r (IsListingError image entry size targets addresses) → IfErr r (IsCodeError image entry)
   err-code (Ok words) is listed = tt
   err-code (Err (Fault fault)) is stop = record { size = size; size_is = is; first = first-of-stop fault.kind fault.address stop }
   err-code (Err NoMemory) is stop = tt

@@ -6,8 +6,9 @@ use Rattle.code_reach_spec.specs.declared.CodeKind.{CodeKind}
 use Rattle.code_reach_spec.specs.Code.{AreReachable, Reaches, IsStack, IsCyclic}
 use Rattle.code_reach_spec.specs.Code.{word_at}
 use Rattle.code_reach_spec.specs.Faults.{IsFunctionFault, HasNoFault, IsReachFault, ReachesNoFault, IsFirst}
-use Rattle.code_reach.specs.declared.faults.CodeError.{CodeError}
-use Rattle.code_reach.specs.declared.faults.CodeError.TheVariants.{Fault, NoMemory}
+use Rattle.attempt.specs.declared.refusal.Refusal.{Refusal}
+use Rattle.attempt.specs.declared.refusal.Refusal.TheVariants.{Fault, NoMemory}
+use Rattle.code_reach.specs.declared.faults.CodeFault.{CodeFault}
 
 -- the function at an entry has no fault, and these are the addresses that it reaches, ascending, each with its word
 pub record IsCode (image : Image) (entry : ℕ) (words : List (ℕ × ℕ)) : Type 0 where
@@ -24,7 +25,7 @@ pub record IsFirstFault (image : Image) (entry : ℕ) (kind : CodeKind) (address
   pub first : IsFirst (IsFunctionFault image entry size) kind address
 
 -- the function at an entry has this error; out of memory may come at any time
-abbrev pub IsCodeError : Image → (entry : ℕ) → CodeError → Type 0
+abbrev pub IsCodeError : Image → (entry : ℕ) → Refusal CodeFault → Type 0
 IsCodeError image entry (Fault fault) = IsFirstFault image entry fault.kind fault.address
 IsCodeError image entry NoMemory = Unit {0}
 
@@ -35,7 +36,7 @@ pub record IsReach (image : Image) (entry : ℕ) (entries : List ℕ) : Type 0 w
   pub exactly : (other : ℕ) → Contains entries other ↔ Reaches image entry other
 
 -- what is reached from the entry has this error; out of memory may come at any time
-abbrev pub IsReachError : Image → (entry : ℕ) → CodeError → Type 0
+abbrev pub IsReachError : Image → (entry : ℕ) → Refusal CodeFault → Type 0
 IsReachError image entry (Fault fault) = IsFirst (IsReachFault image entry) fault.kind fault.address
 IsReachError image entry NoMemory = Unit {0}
 

@@ -4,8 +4,9 @@ use Rattle.elf_read_spec.specs.Image.{Image}
 use Rattle.code_reach_spec.specs.declared.CodeKind.{CodeKind}
 use Rattle.code_reach_spec.specs.Code.{word_at}
 use Rattle.code_reach.specs.Flows.{fault_among}
-use Rattle.code_reach.specs.declared.faults.CodeError.{CodeError}
-use Rattle.code_reach.specs.declared.faults.CodeError.TheVariants.{Fault, NoMemory}
+use Rattle.attempt.specs.declared.refusal.Refusal.{Refusal}
+use Rattle.attempt.specs.declared.refusal.Refusal.TheVariants.{Fault, NoMemory}
+use Rattle.code_reach.specs.declared.faults.CodeFault.{CodeFault}
 
 -- no instruction at these addresses is wrong, where these are the targets that are reached, and these are the addresses with their words
 pub record AreWords (image : Image) (entry size : ℕ) (targets addresses : List ℕ) (words : List (ℕ × ℕ)) : Type 0 where
@@ -21,6 +22,6 @@ pub record IsStop (image : Image) (entry size : ℕ) (targets addresses : List �
   pub fault : fault_among image entry size targets address ≡ Some kind
   pub before : (k : ℕ) → k < index → fault_among image entry size targets (slice_index addresses k) ≡ None
 
-abbrev pub IsListingError : Image → (entry size : ℕ) → (targets addresses : List ℕ) → CodeError → Type 0
+abbrev pub IsListingError : Image → (entry size : ℕ) → (targets addresses : List ℕ) → Refusal CodeFault → Type 0
 IsListingError image entry size targets addresses (Fault fault) = IsStop image entry size targets addresses fault.kind fault.address
 IsListingError image entry size targets addresses NoMemory = Unit {0}

@@ -5,14 +5,14 @@ ghost use Rattle.code_reach_spec.specs.FaultAt as spec;
 ghost use Rattle.code_reach_spec.specs.Faults.{is_jalr as is_jalr_of};
 ghost use Rattle.elf_read_spec.specs.Image.{size_at};
 ghost use Rattle.code_reach.specs.Flows.{flow_seen, fault_among};
-ghost use Rattle.code_reach.specs.declared.faults.CodeError.TheVariants.{NoMemory, Fault};
+ghost use Rattle.attempt.specs.declared.refusal.Refusal.TheVariants.{Fault};
 
 use crate::flows::{Flow, flow_of, instruction_at, instruction_before};
+use attempt::Refusal;
 use code_reach_spec::CodeKind;
 use elf_read::Image;
 use indexmap::IndexSet;
 use rv_instr::Instr;
-use std::alloc::{AllocError, AllocFailed};
 use thiserror::Error;
 
 /// What is wrong with code, and at which address.
@@ -25,38 +25,11 @@ pub struct CodeFault {
     pub address: u32,
 }
 
-/// Why there is no answer about code.
-#[derive(Clone, Copy, Debug, PartialEq, Eq, Error)]
-pub enum CodeError {
-    /// The code has a fault; this is the first.
-    #[error(transparent)]
-    Fault(CodeFault),
-    /// There was no memory.
-    #[error("no memory")]
-    NoMemory,
-}
-
-impl From<CodeFault> for CodeError {
+impl From<CodeFault> for Refusal<CodeFault> {
     ghost from_gives = { λ fault error. error ≡ Fault fault };
 
     fn from(fault: CodeFault) -> Self {
-        CodeError::Fault(fault)
-    }
-}
-
-impl<T: Drop> From<AllocFailed<T>> for CodeError {
-    ghost from_gives = { λ _ error. error ≡ NoMemory };
-
-    fn from(_: AllocFailed<T>) -> Self {
-        CodeError::NoMemory
-    }
-}
-
-impl From<AllocError> for CodeError {
-    ghost from_gives = { λ _ error. error ≡ NoMemory };
-
-    fn from(_: AllocError) -> Self {
-        CodeError::NoMemory
+        Refusal::Fault(fault)
     }
 }
 

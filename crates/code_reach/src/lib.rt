@@ -17,7 +17,7 @@ mod stacks;
 mod survey;
 mod walk;
 
-pub use faults::{CodeError, CodeFault};
+pub use faults::CodeFault;
 pub use flows::{Flow, flow_at, instruction_at};
 pub use functions::{callee, callee_at};
 pub use listing::code;

@@ -8,10 +8,11 @@ ghost use Rattle.code_reach.specs.Growth.{IsPlace};
 ghost use Rattle.code_reach.specs.Listing.{AreWords, IsListingError};
 ghost use Rattle.code_reach.specs.Found.{IsCode, IsCodeError};
 
-use crate::faults::{CodeError, CodeFault, fault_at};
+use crate::faults::{CodeFault, fault_at};
 use crate::flows::word;
 use crate::range::range_fault;
 use crate::walk::reached;
+use attempt::Refusal;
 use code_reach_spec::CodeKind;
 use elf_read::Image;
 use indexmap::IndexSet;
@@ -54,7 +55,7 @@ fn words(
     size: u32,
     targets: &IndexSet<u32>,
     addresses: &[u32],
-) -> Result<Vec<(u32, u32)>, CodeError>
+) -> Result<Vec<(u32, u32)>, Refusal<CodeFault>>
     requires { All (IsPlace entry size) addresses.now }
     ensures listed { IfOk result (λ words. AreWords image.now entry size targets.now.keys
         addresses.now words.items) }
@@ -72,14 +73,18 @@ fn words(
 /// The code of the function at an entry: the address and the word of each instruction that it
 /// reaches, ascending. The fault is the first of the function's own, by address and then by kind;
 /// other functions, those that it calls too, aren't looked at.
-pub fn code(alloc: Global, image: &Image<'_>, entry: u32) -> Result<Vec<(u32, u32)>, CodeError>
+pub fn code(
+    alloc: Global,
+    image: &Image<'_>,
+    entry: u32,
+) -> Result<Vec<(u32, u32)>, Refusal<CodeFault>>
     requires { IsSome (size_at image.now entry) }
     ensures found { IfOk result (λ words. IsCode image.now entry words.items) }
     ensures fault { IfErr result (λ error. IsCodeError image.now entry error) }
 {
     let size = image.size_at(entry).unwrap();
     if let Some(kind) = range_fault(image, entry, size) {
-        return Err(CodeError::Fault(CodeFault {
+        return Err(Refusal::Fault(CodeFault {
             kind,
             address: entry,
         }));

@@ -14,13 +14,13 @@ ghost use Rattle.code_reach.specs.Stacks.{AreCalls, IsDeepest, IsOwnStack, IsTot
 ghost use Rattle.code_reach.specs.Stacks.{IsFresh, known_or_zero, opening_at};
 ghost use Rattle.code_reach.specs.Surveys.{CallsOut};
 
-use crate::faults::CodeError;
+use crate::faults::CodeFault;
 use crate::flows::instruction_at;
 use crate::functions::visit;
 use crate::range::range_fault;
 use crate::survey::add_entries;
 use crate::walk::{add, reached};
-use attempt::attempt;
+use attempt::{Refusal, attempt};
 use elf_read::Image;
 use indexmap::{IndexMap, IndexSet};
 use rv_instr::{ImmediateOperation, Instr, Reg};
@@ -251,7 +251,11 @@ fn depth(alloc: Global, image: &Image<'_>, entry: u32) -> Result<Option<u64>, Al
 /// How many bytes of stack the function at an entry takes, with all that it calls; `None` where a
 /// cycle of calls is reached. The fault is the first of all that is reached, as [`crate::reach`]
 /// answers it.
-pub fn stack(alloc: Global, image: &Image<'_>, entry: u32) -> Result<Option<u64>, CodeError>
+pub fn stack(
+    alloc: Global,
+    image: &Image<'_>,
+    entry: u32,
+) -> Result<Option<u64>, Refusal<CodeFault>>
     requires { IsSome (size_at image.now entry) }
     ensures found { IfOk result (IsDepth image.now entry) }
     ensures acyclic { IfOk result (λ depth. IfSome depth (λ _. IsCyclic image.now entry → ⊥)) }

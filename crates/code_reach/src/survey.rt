@@ -7,10 +7,10 @@ ghost use Rattle.elf_read_spec.specs.Image.{size_at};
 ghost use Rattle.code_reach.specs.Surveys.{AnyHasFault, AreEntries, IsFirstOf, IsOverlap};
 ghost use Rattle.code_reach.specs.Found.{IsReach, IsReachError};
 
-use crate::faults::{CodeError, CodeFault};
+use crate::faults::CodeFault;
 use crate::functions::{earlier, visit};
 use crate::walk::add;
-use attempt::attempt;
+use attempt::{Refusal, attempt};
 use code_reach_spec::CodeKind;
 use elf_read::Image;
 use indexmap::IndexSet;
@@ -74,7 +74,7 @@ pub(crate) fn add_entries(
     entries: &mut IndexSet<u32>,
     image: &Image<'_>,
     entry: u32,
-) -> Result<(), CodeError>
+) -> Result<(), Refusal<CodeFault>>
     requires none_yet { entries.old.keys ≡ [] }
     requires sized { IsSome (size_at image.now entry) }
     ensures found { OnOk result (IsReach image.now entry entries.new.keys) }
@@ -84,14 +84,14 @@ pub(crate) fn add_entries(
     entries.sort()?;
     let overlap = overlap_fault(image, entries.as_slice());
     match earlier(first, overlap) {
-        Some(fault) => Err(CodeError::Fault(fault)),
+        Some(fault) => Err(Refusal::Fault(fault)),
         None => Ok(()),
     }
 }
 
 /// The entries of the functions that are reached from one, itself too, ascending. The fault is the
 /// first of all that is reached: of one of the functions, or that two share bytes.
-pub fn reach(alloc: Global, image: &Image<'_>, entry: u32) -> Result<Vec<u32>, CodeError>
+pub fn reach(alloc: Global, image: &Image<'_>, entry: u32) -> Result<Vec<u32>, Refusal<CodeFault>>
     requires { IsSome (size_at image.now entry) }
     ensures found { IfOk result (λ entries. IsReach image.now entry entries.items) }
     ensures fault { IfErr result (λ error. IsReachError image.now entry error) }
@@ -100,7 +100,7 @@ pub fn reach(alloc: Global, image: &Image<'_>, entry: u32) -> Result<Vec<u32>, C
     attempt!(add_entries(alloc, &mut entries, image, entry));
     let list = attempt!(
         Vec::from_slice(alloc, entries.as_slice()),
-        CodeError::NoMemory
+        Refusal::NoMemory
     );
     Ok(list)
 }

@@ -8,8 +8,9 @@
 //!   nothing with the flags 16
 
 use crate::{address, number};
+use attempt::Refusal;
 use elf_make::{Parts, write};
-use elf_read::{ElfError, Image, Run, Segment, Symbol, read};
+use elf_read::{ElfFault, Image, Run, Segment, Symbol, read};
 use elf_read_spec::SymbolValues;
 use row_io::{Out, split};
 use std::alloc::{AllocError, Global};
@@ -214,14 +215,14 @@ fn make_changes(bytes: &mut Vec<u8>, row: &str) {
     }
 }
 
-fn put_error(error: ElfError, out: &mut Out) {
+fn put_error(error: Refusal<ElfFault>, out: &mut Out) {
     match error {
-        ElfError::Fault(fault) => {
+        Refusal::Fault(fault) => {
             out.show(&fault.kind);
             out.put(" at ");
             out.show(&fault.offset);
         }
-        ElfError::NoMemory => out.fail(),
+        Refusal::NoMemory => out.fail(),
     }
 }
 

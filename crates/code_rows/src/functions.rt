@@ -11,39 +11,40 @@ ghost use Rattle.elf_read_spec.specs.Image.{size_at};
 
 use crate::number;
 use crate::texts::{put_graph, put_variable};
+use attempt::Refusal;
 use decompile::{
-    CodeError, CodeGraph, GraphError, code, decompile, decompile_within, reach, stack,
+    CodeFault, CodeGraph, GraphFault, code, decompile, decompile_within, reach, stack,
 };
 use elf_read::{Image, read};
 use graph_core::{Graph, GraphRun, Walks, callee_runs_as_alone, run_goes_on, validate};
 use row_io::{Out, put_executable, split};
 use std::alloc::{AllocError, Global};
 
-fn put_error(error: CodeError, out: &mut Out) {
+fn put_error(error: Refusal<CodeFault>, out: &mut Out) {
     match error {
-        CodeError::Fault(fault) => {
+        Refusal::Fault(fault) => {
             out.show(&fault.kind);
             out.put(" at ");
             out.hexadecimal(u64::from(fault.address));
         }
-        CodeError::NoMemory => out.fail(),
+        Refusal::NoMemory => out.fail(),
     }
 }
 
-fn put_graph_error(error: GraphError, out: &mut Out) {
+fn put_graph_error(error: Refusal<GraphFault>, out: &mut Out) {
     match error {
-        GraphError::Fault(fault) => put_error(CodeError::Fault(fault), out),
-        GraphError::Unlisted { address, callee } => {
+        Refusal::Fault(GraphFault::Code(fault)) => put_error(Refusal::Fault(fault), out),
+        Refusal::Fault(GraphFault::Unlisted { address, callee }) => {
             out.put("unlisted ");
             out.hexadecimal(u64::from(callee));
             out.put(" at ");
             out.hexadecimal(u64::from(address));
         }
-        GraphError::Large(count) => {
+        Refusal::Fault(GraphFault::Large(count)) => {
             out.put("large ");
             out.show(&count);
         }
-        GraphError::NoMemory => out.fail(),
+        Refusal::NoMemory => out.fail(),
     }
 }
 

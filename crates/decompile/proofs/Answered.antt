@@ -9,8 +9,10 @@ use Rattle.decompile_spec.specs.CodeGraph.{IsCall}
 use Rattle.decompile_laws.specs.Layout.{AreItems, laid, LaidAreCodeGraphs}
 use Rattle.decompile_laws.specs.Valid.{CodeGraphsAreValid}
 use Rattle.decompile.specs.declared.items.Item.{Item}
-use Rattle.decompile.specs.declared.error.GraphError.{GraphError}
-use Rattle.decompile.specs.declared.error.GraphError.TheVariants.{Fault, Unlisted, Large, NoMemory}
+use Rattle.attempt.specs.declared.refusal.Refusal.{Refusal}
+use Rattle.attempt.specs.declared.refusal.Refusal.TheVariants.{Fault, NoMemory}
+use Rattle.decompile.specs.declared.error.GraphFault.{GraphFault}
+use Rattle.decompile.specs.declared.error.GraphFault.TheVariants.{Code, Unlisted, Large}
 use Rattle.decompile.specs.Items.{item_of, AreInstructions}
 use Rattle.decompile.specs.Answer.{setting, counting, IsFunctionGraph}
 use Rattle.decompile.specs.Callees.{IsListed}
@@ -36,12 +38,12 @@ module _ (image : Image) (entry size : ℕ) (entries : List ℕ) (items : List I
     pub answered_size : length graph.nodes ≡ counted (counting entry size (length extents)) 1 (map item_of items)
     answered_size = made_counted image entry size entries (map item_of items) extents firsts graph are.0 listed are.1 have numbers made
 
-  pub too_many : LaidAreCodeGraphs → CodeGraphsAreValid → (maximum : ℕ) (error : GraphError) → IsTooMany (counting entry size (length extents)) maximum (map item_of items) error
+  pub too_many : LaidAreCodeGraphs → CodeGraphsAreValid → (maximum : ℕ) (error : Refusal GraphFault) → IsTooMany (counting entry size (length extents)) maximum (map item_of items) error
       → IsGraphError image entry entries maximum error
-  too_many layout valid maximum (Fault fault) is = absurd is
-  too_many layout valid maximum (Unlisted address callee) is = absurd is
+  too_many layout valid maximum (Fault (Code fault)) is = absurd is
+  too_many layout valid maximum (Fault (Unlisted address callee)) is = absurd is
   too_many layout valid maximum NoMemory is = tt
-  too_many layout valid maximum (Large count) is = record {
+  too_many layout valid maximum (Fault (Large count)) is = record {
     graph = laid (setting entry size (map run_of extents) entries firsts) (map item_of items);
     firsts = firsts;
     graph_is = answered firsts _ refl refl layout valid;

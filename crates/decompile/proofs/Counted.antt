@@ -4,8 +4,10 @@ use Rattle.std.specs.Prelude.{Contains}
 use Rattle.std.proofs.lemmas.List.{length-append}
 use Rattle.decompile_spec.specs.Blocks.{Setting}
 use Rattle.decompile_laws.specs.Layout.{Item, block, blocks, laid}
-use Rattle.decompile.specs.declared.error.GraphError.{GraphError}
-use Rattle.decompile.specs.declared.error.GraphError.TheVariants.{Large}
+use Rattle.attempt.specs.declared.refusal.Refusal.{Refusal}
+use Rattle.attempt.specs.declared.refusal.Refusal.TheVariants.{Fault}
+use Rattle.decompile.specs.declared.error.GraphFault.{GraphFault}
+use Rattle.decompile.specs.declared.error.GraphFault.TheVariants.{Large}
 use Rattle.decompile.specs.Counts.{further_nodes, counted, IsTooMany}
 use Rattle.decompile.specs.declared.numbers.Counting.{Counting}
 use Rattle.decompile.proofs.Sizes.{counting_of, block_long}
@@ -34,10 +36,10 @@ module _ (by : Counting) (count further inner next : ℕ) (item : Item) (rest al
   pub one_more : (same : ℕ) → same ≡ next → counted by same rest ≡ counted by 1 all
   one_more same e = ap (λ (n : ℕ). counted by n rest) (e ∙ sum) ∙ whole
 
-  pub one_too_many : (maximum : ℕ) (error : GraphError) → error ≡ Large next → maximum < next → IsTooMany by maximum all error
+  pub one_too_many : (maximum : ℕ) (error : Refusal GraphFault) → error ≡ Fault (Large next) → maximum < next → IsTooMany by maximum all error
   one_too_many maximum error e above =
-      subst (λ (x : GraphError). IsTooMany by maximum all x) (sym e) (above, omega (arith, counted_from by next rest, one_more next (λ i. next)))
+      subst (λ (x : Refusal GraphFault). IsTooMany by maximum all x) (sym e) (above, omega (arith, counted_from by next rest, one_more next (λ i. next)))
 
 -- the landing node at the entry alone is too many
-pub none_fits : (by : Counting) (maximum : ℕ) (all : List Item) (error : GraphError) → error ≡ Large 1 → maximum < 1 → IsTooMany by maximum all error
-none_fits by maximum all error e above = subst (λ (x : GraphError). IsTooMany by maximum all x) (sym e) (above, counted_from by 1 all)
+pub none_fits : (by : Counting) (maximum : ℕ) (all : List Item) (error : Refusal GraphFault) → error ≡ Fault (Large 1) → maximum < 1 → IsTooMany by maximum all error
+none_fits by maximum all error e above = subst (λ (x : Refusal GraphFault). IsTooMany by maximum all x) (sym e) (above, counted_from by 1 all)

@@ -11,21 +11,22 @@ use Rattle.code_reach_spec.specs.Code.{flow_at}
 use Rattle.code_reach_spec.specs.Faults.{HasNoFault}
 use Rattle.code_reach.specs.declared.flows.Flow.TheVariants as flows
 use Rattle.code_reach.specs.Found.{IsCodeError}
-use Rattle.code_reach.specs.declared.faults.CodeError.{CodeError}
-use Rattle.code_reach.specs.declared.faults.CodeError.TheVariants as code
+use Rattle.attempt.specs.declared.refusal.Refusal.{Refusal}
+use Rattle.attempt.specs.declared.refusal.Refusal.TheVariants.{Fault, NoMemory}
+use Rattle.code_reach.specs.declared.faults.CodeFault.{CodeFault}
+use Rattle.decompile.specs.declared.error.GraphFault.{GraphFault}
+use Rattle.decompile.specs.declared.error.GraphFault.TheVariants.{Code, Unlisted, Large}
 use Rattle.decompile_spec.specs.Blocks.{callee_of}
 use Rattle.decompile_spec.specs.CodeGraph.{IsCall}
 use Rattle.decompile_laws.specs.Layout.{Item, AreItems}
 use Rattle.decompile.specs.declared.items.Item.{Item as CodeItem}
-use Rattle.decompile.specs.declared.error.GraphError.{GraphError}
-use Rattle.decompile.specs.declared.error.GraphError.TheVariants.{Fault, Unlisted, Large, NoMemory}
 use Rattle.decompile.specs.Items.{item_of}
 use Rattle.decompile.specs.Callees.{callee_of_item, IsListed, IsFirstUnlisted}
 use Rattle.decompile.specs.Errors.{error_of, IsGraphError}
 
-pub code_error : (image : Image) (entry : ℕ) (entries : List ℕ) (maximum : ℕ) (error : CodeError) → IsCodeError image entry error → IsGraphError image entry entries maximum (error_of error)
-code_error image entry entries maximum (code.Fault fault) is = is
-code_error image entry entries maximum code.NoMemory is = tt
+pub code_error : (image : Image) (entry : ℕ) (entries : List ℕ) (maximum : ℕ) (error : Refusal CodeFault) → IsCodeError image entry error → IsGraphError image entry entries maximum (error_of error)
+code_error image entry entries maximum (Fault fault) is = is
+code_error image entry entries maximum NoMemory is = tt
 
 module _ (image : Image) (entry size : ℕ) (entries : List ℕ) (items : List CodeItem) (size_is : size_at image entry ≡ Some size) (sound : HasNoFault image entry size)
     (are : AreItems image entry size (map item_of items)) where
@@ -68,11 +69,11 @@ module _ (image : Image) (entry size : ℕ) (entries : List ℕ) (items : List C
       get_or_none : ℕ → CodeItem
       get_or_none k = record { address = 0; instruction = instr.Ecall; flow = flows.Stops }
 
-  pub first_unlisted : (maximum : ℕ) (error : GraphError) → IsFirstUnlisted entry size entries items error → IsGraphError image entry entries maximum error
-  first_unlisted maximum (Fault fault) o = absurd o.unlisted
-  first_unlisted maximum (Large count) o = absurd o.unlisted
+  pub first_unlisted : (maximum : ℕ) (error : Refusal GraphFault) → IsFirstUnlisted entry size entries items error → IsGraphError image entry entries maximum error
+  first_unlisted maximum (Fault (Code fault)) o = absurd o.unlisted
+  first_unlisted maximum (Fault (Large count)) o = absurd o.unlisted
   first_unlisted maximum NoMemory o = absurd o.unlisted
-  first_unlisted maximum (Unlisted address callee) o = record {
+  first_unlisted maximum (Fault (Unlisted address callee)) o = record {
     size = size;
     size_is = size_is;
     sound = sound;

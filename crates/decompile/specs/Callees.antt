@@ -2,8 +2,10 @@
 use Rattle.std.specs.Prelude.{◌≡◌, ℕ, ◌<◌, ◌%◌, ◌==◌, if◌then◌else◌, List, length, get_or, Contains, Option, Some, None}
 use Rattle.decompile_spec.specs.Blocks.{callee_of}
 use Rattle.decompile.specs.declared.items.Item.{Item}
-use Rattle.decompile.specs.declared.error.GraphError.{GraphError}
-use Rattle.decompile.specs.declared.error.GraphError.TheVariants.{Unlisted}
+use Rattle.attempt.specs.declared.refusal.Refusal.{Refusal}
+use Rattle.attempt.specs.declared.refusal.Refusal.TheVariants.{Fault}
+use Rattle.decompile.specs.declared.error.GraphFault.{GraphFault}
+use Rattle.decompile.specs.declared.error.GraphFault.TheVariants.{Unlisted}
 use Rattle.decompile.specs.Items.{item_of}
 
 -- an address that is a multiple of 4
@@ -19,13 +21,13 @@ abbrev pub IsListed : (entry size : ℕ) → List ℕ → Item → Type 0
 IsListed entry size entries item = (callee : ℕ) → callee_of_item entry size item ≡ Some callee → Contains entries callee
 
 -- it is not, and the error says so
-abbrev pub IsUnlisted : (entry size : ℕ) → List ℕ → Item → GraphError → Type 0
-IsUnlisted entry size entries item (Unlisted address callee) =
+abbrev pub IsUnlisted : (entry size : ℕ) → List ℕ → Item → Refusal GraphFault → Type 0
+IsUnlisted entry size entries item (Fault (Unlisted address callee)) =
     (address ≡ item.address) × (callee_of_item entry size item ≡ Some callee) × (Contains entries callee → ⊥)
 IsUnlisted entry size entries item error = ⊥
 
 -- the error is of the first instruction whose callee isn't listed
-pub record IsFirstUnlisted (entry size : ℕ) (entries : List ℕ) (items : List Item) (error : GraphError) : Type 0 where
+pub record IsFirstUnlisted (entry size : ℕ) (entries : List ℕ) (items : List Item) (error : Refusal GraphFault) : Type 0 where
   pub index : ℕ
   pub item : Item
   pub within : index < length items

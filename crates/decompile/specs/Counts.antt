@@ -10,8 +10,10 @@ use Rattle.code_reach_spec.specs.Code.{Flow, Falls, Branches, Jumps, Calls, Link
 use Rattle.decompile_spec.specs.Blocks.{leaves_range}
 use Rattle.decompile_laws.specs.Layout.{Item}
 use Rattle.decompile.specs.declared.numbers.Counting.{Counting}
-use Rattle.decompile.specs.declared.error.GraphError.{GraphError}
-use Rattle.decompile.specs.declared.error.GraphError.TheVariants.{Large, NoMemory}
+use Rattle.attempt.specs.declared.refusal.Refusal.{Refusal}
+use Rattle.attempt.specs.declared.refusal.Refusal.TheVariants.{Fault, NoMemory}
+use Rattle.decompile.specs.declared.error.GraphFault.{GraphFault}
+use Rattle.decompile.specs.declared.error.GraphFault.TheVariants.{Large}
 
 abbrev pub load_tests : LoadKind → ℕ
 load_tests load_kind.Byte = 0
@@ -55,7 +57,7 @@ counted by n [] = n
 counted by n (item ∷ rest) = counted by (n + (further_nodes by item + 1)) rest
 
 -- the error says that there are more nodes than the maximum
-abbrev pub IsTooMany : Counting → (maximum : ℕ) → List Item → GraphError → Type 0
-IsTooMany by maximum items (Large count) = (maximum < count) × (count ≤ counted by 1 items)
+abbrev pub IsTooMany : Counting → (maximum : ℕ) → List Item → Refusal GraphFault → Type 0
+IsTooMany by maximum items (Fault (Large count)) = (maximum < count) × (count ≤ counted by 1 items)
 IsTooMany by maximum items NoMemory = Unit {0}
 IsTooMany by maximum items error = ⊥

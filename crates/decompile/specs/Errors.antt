@@ -3,17 +3,18 @@ use Rattle.std.specs.Prelude.{◌≡◌, ℕ, ◌<◌, ◌≤◌, List, length, 
 use Rattle.elf_read_spec.specs.Image.{Image, size_at}
 use Rattle.code_reach_spec.specs.Faults.{HasNoFault}
 use Rattle.code_reach.specs.Found.{IsFirstFault}
-use Rattle.code_reach.specs.declared.faults.CodeError.{CodeError}
-use Rattle.code_reach.specs.declared.faults.CodeError.TheVariants as code
+use Rattle.attempt.specs.declared.refusal.Refusal.{Refusal}
+use Rattle.attempt.specs.declared.refusal.Refusal.TheVariants.{Fault, NoMemory}
+use Rattle.code_reach.specs.declared.faults.CodeFault.{CodeFault}
+use Rattle.decompile.specs.declared.error.GraphFault.{GraphFault}
+use Rattle.decompile.specs.declared.error.GraphFault.TheVariants.{Code, Unlisted, Large}
 use Rattle.graph_core_spec.specs.Graph.{Graph}
 use Rattle.decompile_spec.specs.CodeGraph.{IsCall}
 use Rattle.decompile.specs.Answer.{IsFunctionGraph}
-use Rattle.decompile.specs.declared.error.GraphError.{GraphError}
-use Rattle.decompile.specs.declared.error.GraphError.TheVariants.{Fault, Unlisted, Large, NoMemory}
 
-abbrev pub error_of : CodeError → GraphError
-error_of (code.Fault fault) = Fault fault
-error_of code.NoMemory = NoMemory
+abbrev pub error_of : Refusal CodeFault → Refusal GraphFault
+error_of (Fault fault) = Fault (Code fault)
+error_of NoMemory = NoMemory
 
 -- the function has no fault, and the call at an address, the first such, is of a function whose entry isn't listed
 pub record IsUnlistedCall (image : Image) (entry : ℕ) (entries : List ℕ) (address callee : ℕ) : Type 0 where
@@ -34,8 +35,8 @@ pub record IsLarge (image : Image) (entry : ℕ) (entries : List ℕ) (maximum c
 
 -- this is why there is no graph of at most so many nodes: the function's first fault, before its first call that isn't
 -- listed, before its size. Out of memory may come at any time
-abbrev pub IsGraphError : Image → (entry : ℕ) → (entries : List ℕ) → (maximum : ℕ) → GraphError → Type 0
-IsGraphError image entry entries maximum (Fault fault) = IsFirstFault image entry fault.kind fault.address
-IsGraphError image entry entries maximum (Unlisted address callee) = IsUnlistedCall image entry entries address callee
-IsGraphError image entry entries maximum (Large count) = IsLarge image entry entries maximum count
+abbrev pub IsGraphError : Image → (entry : ℕ) → (entries : List ℕ) → (maximum : ℕ) → Refusal GraphFault → Type 0
+IsGraphError image entry entries maximum (Fault (Code fault)) = IsFirstFault image entry fault.kind fault.address
+IsGraphError image entry entries maximum (Fault (Unlisted address callee)) = IsUnlistedCall image entry entries address callee
+IsGraphError image entry entries maximum (Fault (Large count)) = IsLarge image entry entries maximum count
 IsGraphError image entry entries maximum NoMemory = Unit {0}

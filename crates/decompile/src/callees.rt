@@ -5,9 +5,9 @@ ghost use Rattle.std.specs.Prelude.{IfErr, OnOk, Some, None};
 ghost use Rattle.std.specs.List.Sorted.{IsStrictlyIncreasing};
 ghost use Rattle.decompile.specs.Callees as spec;
 
-use crate::error::GraphError;
+use crate::error::GraphFault;
 use crate::items::Item;
-use attempt::attempt;
+use attempt::{Refusal, attempt};
 use code_reach::callee;
 
 /// The address, if it is a multiple of 4.
@@ -43,7 +43,12 @@ fn is_listed(entries: &[u32], callee: u32) -> bool
 }
 
 /// Refuses an instruction of a function whose callee isn't listed.
-fn check_callee(entry: u32, size: u32, item: &Item, entries: &[u32]) -> Result<(), GraphError>
+fn check_callee(
+    entry: u32,
+    size: u32,
+    item: &Item,
+    entries: &[u32],
+) -> Result<(), Refusal<GraphFault>>
     requires { IsStrictlyIncreasing entries.now }
     ensures listed { OnOk result (spec.IsListed entry size entries.now item.now) }
     ensures refused { IfErr result (spec.IsUnlisted entry size entries.now item.now) }
@@ -51,10 +56,10 @@ fn check_callee(entry: u32, size: u32, item: &Item, entries: &[u32]) -> Result<(
     match called(entry, size, item) {
         Some(callee) => {
             if !is_listed(entries, callee) {
-                return Err(GraphError::Unlisted {
+                return Err(Refusal::Fault(GraphFault::Unlisted {
                     address: item.address,
                     callee,
-                });
+                }));
             }
             Ok(())
         }
@@ -68,7 +73,7 @@ pub(crate) fn check_callees(
     size: u32,
     items: &[Item],
     entries: &[u32],
-) -> Result<(), GraphError>
+) -> Result<(), Refusal<GraphFault>>
     requires { IsStrictlyIncreasing entries.now }
     ensures listed { OnOk result (All (spec.IsListed entry size entries.now) items.now) }
     ensures refused { IfErr result (spec.IsFirstUnlisted entry size entries.now items.now) }

@@ -11,12 +11,12 @@ ghost use Rattle.decompile.specs.Errors.{IsGraphError};
 ghost use Rattle.decompile.specs.Items.{AreInstructions};
 
 use crate::callees::check_callees;
-use crate::error::GraphError;
+use crate::error::{GraphFault, without_code};
 use crate::function::Function;
 use crate::items::{Item, instructions};
 use crate::numbers::{Counting, count_nodes, first_nodes};
 use crate::runs::runs;
-use attempt::attempt;
+use attempt::{Refusal, attempt};
 use decompile_laws::layout::laid_are_code_graphs;
 use decompile_laws::validity::code_graphs_are_valid;
 use elf_read::Image;
@@ -80,7 +80,7 @@ fn listed_instructions(
     entry: u32,
     size: u32,
     entries: &[u32],
-) -> Result<Vec<Item>, GraphError>
+) -> Result<Vec<Item>, Refusal<GraphFault>>
     requires function { size_at image.now entry ≡ Some size }
     requires rising { IsStrictlyIncreasing entries.now }
     ensures found { IfOk result (λ items. AreInstructions image.now entry items.items
@@ -88,7 +88,10 @@ fn listed_instructions(
     ensures fault { IfErr result (λ error. (maximum : ℕ)
         → IsGraphError image.now entry entries.now maximum error) }
 {
-    let items = instructions(alloc, image, entry)?;
+    let items = match instructions(alloc, image, entry) {
+        Ok(items) => items,
+        Err(refusal) => return Err(without_code(refusal)),
+    };
     check_callees(entry, size, items.as_slice(), entries)?;
     Ok(items)
 }
@@ -104,7 +107,7 @@ pub fn decompile_within(
     entry: u32,
     entries: &[u32],
     maximum: usize,
-) -> Result<CodeGraph, GraphError>
+) -> Result<CodeGraph, Refusal<GraphFault>>
     requires function { IsSome (size_at image.now entry) }
     requires rising { IsStrictlyIncreasing entries.now }
     ensures graph { IfOk result (λ found. IsFunctionGraph image.now entry entries.now
@@ -144,7 +147,7 @@ pub fn decompile(
     image: &Image<'_>,
     entry: u32,
     entries: &[u32],
-) -> Result<CodeGraph, GraphError>
+) -> Result<CodeGraph, Refusal<GraphFault>>
     requires function { IsSome (size_at image.now entry) }
     requires rising { IsStrictlyIncreasing entries.now }
     ensures graph { IfOk result (λ found. IsFunctionGraph image.now entry entries.now

@@ -5,7 +5,8 @@ ghost use Rattle.elf_read_spec.specs.Image.{size_at};
 ghost use Rattle.code_reach.specs.Found.{IsCodeError};
 ghost use Rattle.decompile.specs.Items.{AreInstructions};
 
-use code_reach::{CodeError, Flow, code, flow_at};
+use attempt::Refusal;
+use code_reach::{CodeFault, Flow, code, flow_at};
 use elf_read::Image;
 use rv_decode::decode;
 use rv_instr::Instr;
@@ -27,7 +28,7 @@ pub(crate) fn instructions(
     alloc: Global,
     image: &Image<'_>,
     entry: u32,
-) -> Result<Vec<Item>, CodeError>
+) -> Result<Vec<Item>, Refusal<CodeFault>>
     requires { IsSome (size_at image.now entry) }
     ensures found { IfOk result (λ items. AreInstructions image.now entry items.items) }
     ensures fault { IfErr result (λ error. IsCodeError image.now entry error) }

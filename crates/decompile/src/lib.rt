@@ -17,7 +17,7 @@ mod items;
 mod numbers;
 mod runs;
 
-pub use code_reach::{CodeError, CodeFault, code, reach, stack};
-pub use error::GraphError;
+pub use code_reach::{CodeFault, code, reach, stack};
+pub use error::GraphFault;
 pub use function::graph_number;
 pub use graphs::{CodeGraph, decompile, decompile_within};

@@ -4,12 +4,13 @@ ghost use Rattle.std.specs.Prelude.{◌≡◌, ◌+◌, ◌<◌, ◌≤◌, [], 
 ghost use Rattle.std.specs.List.Sorted.{IsStrictlyIncreasing};
 ghost use Rattle.decompile.specs.Items.{item_of};
 ghost use Rattle.decompile.specs.Counts as spec;
-ghost use Rattle.decompile.specs.declared.error.GraphError.TheVariants.{Large};
+ghost use Rattle.attempt.specs.declared.refusal.Refusal.TheVariants.{Fault};
+ghost use Rattle.decompile.specs.declared.error.GraphFault.TheVariants.{Large};
 
-use crate::error::GraphError;
+use crate::error::GraphFault;
 use crate::function::leaves_range;
 use crate::items::Item;
-use attempt::attempt;
+use attempt::{Refusal, attempt};
 use code_reach::Flow;
 use indexmap::IndexMap;
 use rv_instr::{Instr, LoadKind, StoreKind};
@@ -97,18 +98,22 @@ fn after(by: Counting, item: &Item, first: usize) -> Result<usize, AllocError>
 }
 
 /// A number of nodes, if it is at most the maximum.
-fn bounded(count: usize, maximum: usize) -> Result<usize, GraphError>
+fn bounded(count: usize, maximum: usize) -> Result<usize, Refusal<GraphFault>>
     ensures within { IfOk result (λ same. (same ≡ count) × (count ≤ maximum)) }
-    ensures large { IfErr result (λ error. (error ≡ Large count) × (maximum < count)) }
+    ensures large { IfErr result (λ error. (error ≡ Fault (Large count)) × (maximum < count)) }
 {
     if count > maximum {
-        return Err(GraphError::Large(count));
+        return Err(Refusal::Fault(GraphFault::Large(count)));
     }
     Ok(count)
 }
 
 /// How many nodes the graph of some instructions has; the count stops above the maximum.
-pub(crate) fn count_nodes(by: Counting, items: &[Item], maximum: usize) -> Result<usize, GraphError>
+pub(crate) fn count_nodes(
+    by: Counting,
+    items: &[Item],
+    maximum: usize,
+) -> Result<usize, Refusal<GraphFault>>
     ensures count { IfOk result (λ count. (count ≡ spec.counted by 1 (map item_of items.now))
         × (count ≤ maximum)) }
     ensures large { IfErr result (spec.IsTooMany by maximum (map item_of items.now)) }

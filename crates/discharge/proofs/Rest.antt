@@ -26,14 +26,15 @@ use Rattle.discharge_spec.specs.Closing.{IsLarge, has_no_step, is_truth, closing
 use Rattle.discharge_spec.specs.declared.GoalQuantity.{GoalQuantity}
 use Rattle.discharge_spec.specs.declared.GoalQuantity.TheVariants.{Terms, Variables}
 use Rattle.clause_check.specs.Logged.{Logged, clauses_of}
-use Rattle.clause_check.specs.declared.log.StepError.{StepError}
-use Rattle.clause_check.specs.declared.log.StepError.TheVariants.{Fault, NoMemory}
+use Rattle.attempt.specs.declared.refusal.Refusal.{Refusal}
+use Rattle.attempt.specs.declared.refusal.Refusal.TheVariants.{Fault, NoMemory}
+use Rattle.clause_check.specs.declared.hints.StepFault.{StepFault}
+use Rattle.discharge.specs.declared.error.CloseFault.{CloseFault}
+use Rattle.discharge.specs.declared.error.SeekFault.{SeekFault}
+use Rattle.discharge.specs.declared.error.CloseFault.TheVariants as close
+use Rattle.discharge.specs.declared.error.SeekFault.TheVariants as seek
 use Rattle.bit_blast_spec.specs.Goal.{cnf_of}
 use Rattle.sat_search_spec.specs.Logs.{Lean, Spent}
-use Rattle.discharge.specs.declared.error.CloseError.{CloseError}
-use Rattle.discharge.specs.declared.error.CloseError.TheVariants as close
-use Rattle.discharge.specs.declared.error.SeekError.{SeekError}
-use Rattle.discharge.specs.declared.error.SeekError.TheVariants as seek
 use Rattle.discharge.specs.declared.seeking.Sought.{Sought}
 use Rattle.discharge.specs.declared.seeking.Sought.TheVariants.{Valid, Refuted, Limit}
 use Rattle.discharge.specs.Answers.{TakesFirst, refusal, Answers, CountsVariables, CountsLarge, HasFewVariables, RefutesGoal, SeeksForm, Seeks, is_empty_some, ends_empty}
@@ -105,7 +106,7 @@ pub begins : (old : Logged) (steps : List Step) → old.added ≡ []
 begins old steps e = sym (rw (e, append-nil old.cnf.clauses) refl)
 
 -- a step that doesn't follow
-refused_answers : (A : Type 0) (verdict : Closing) (before after : List Step) (old new : Logged) (is_closed : Bool) (number : ℕ) (error : StepError)
+refused_answers : (A : Type 0) (verdict : Closing) (before after : List Step) (old new : Logged) (is_closed : Bool) (number : ℕ) (error : Refusal StepFault)
     → verdict ≡ checked old.cnf.variables (clauses_of old) is_closed number before → TakesFirst before after old new (Err error)
     → Answers {A = A} verdict (Err (refusal error number))
 refused_answers A verdict before left old new is_closed number (Fault fault) is (step, others, first, hint, kind, refused) =
@@ -114,11 +115,11 @@ refused_answers A verdict before left old new is_closed number (Fault fault) is 
     ∙ ap (λ o. after o number (checked old.cnf.variables (clauses_of old ++ step.literals ∷ []) (is_empty step.literals) (number + 1) others)) refused
 refused_answers A verdict before left old new is_closed number NoMemory is takes = tt
 
-pub error_answers : (A : Type 0) (verdict : Closing) (before after : List Step) (old new : Logged) (is_closed : Bool) (number : ℕ) (error : StepError) (answer : CloseError)
+pub error_answers : (A : Type 0) (verdict : Closing) (before after : List Step) (old new : Logged) (is_closed : Bool) (number : ℕ) (error : Refusal StepFault) (answer : Refusal CloseFault)
     → answer ≡ refusal error number → verdict ≡ checked old.cnf.variables (clauses_of old) is_closed number before → TakesFirst before after old new (Err error)
     → Answers {A = A} verdict (Err answer)
 error_answers A verdict before left old new is_closed number error answer same is takes =
-    subst (λ (e : CloseError). Answers {A = A} verdict (Err e)) (sym same) (refused_answers A verdict before left old new is_closed number error is takes)
+    subst (λ (e : Refusal CloseFault). Answers {A = A} verdict (Err e)) (sym same) (refused_answers A verdict before left old new is_closed number error is takes)
 
 -- a step that follows
 pub goes_on : (old new : Logged) (before after : List Step) → TakesFirst before after old new (Ok tt) → (is_closed : Bool) (number : ℕ)
@@ -132,7 +133,7 @@ goes_on old new before left (step, first, follows, cnf_is, added_is) is_closed n
 pub step_taken : (before left : List Step) (s : Step) → before ≡ s ∷ left → (old new : Logged) (literals : List Literal) (hints : List ℕ)
     → outcome old.cnf.variables (clauses_of old) literals hints ≡ outcome old.cnf.variables (clauses_of old) s.literals s.hints
     → (outcome old.cnf.variables (clauses_of old) s.literals s.hints ≡ Follows → literals ≡ s.literals)
-    → (result : Result (Unit {0}) StepError) → OnOk result (outcome old.cnf.variables (clauses_of old) literals hints ≡ Follows)
+    → (result : Result (Unit {0}) (Refusal StepFault)) → OnOk result (outcome old.cnf.variables (clauses_of old) literals hints ≡ Follows)
     → ((hint : ℕ) (kind : StepFaultKind) → (result ≡ Err (Fault (record { hint = hint; kind = kind }))) ↔ (outcome old.cnf.variables (clauses_of old) literals hints ≡ Refused hint kind))
     → new.cnf ≡ old.cnf → OnOk result (new.added ≡ old.added ++ literals ∷ []) → TakesFirst before left old new result
 step_taken before left s first old new literals hints same kept (Ok done) follows fault cnf added =
@@ -192,17 +193,17 @@ never_large variables clauses is_closed number (step ∷ steps) quantity e =
     by_outcome Follows rest on = rest on
     by_outcome (Refused hint kind) rest on = cc
 
-pub counts_none : {A : Type 0} (form : Term) (verdict : Closing) (result : Result A CloseError) → ((quantity : GoalQuantity) → verdict ≡ IsLarge quantity → ⊥)
+pub counts_none : {A : Type 0} (form : Term) (verdict : Closing) (result : Result A (Refusal CloseFault)) → ((quantity : GoalQuantity) → verdict ≡ IsLarge quantity → ⊥)
     → Answers verdict result → CountsVariables form result
 counts_none form verdict (Ok done) never answers = tt
-counts_none form verdict (Err (close.Large quantity count)) never answers = absurd (never quantity answers)
-counts_none form verdict (Err (close.Step number)) never answers = tt
-counts_none form verdict (Err close.Unclosed) never answers = tt
-counts_none form verdict (Err close.NoMemory) never answers = tt
+counts_none form verdict (Err (Fault (close.Large quantity count))) never answers = absurd (never quantity answers)
+counts_none form verdict (Err (Fault (close.Step number))) never answers = tt
+counts_none form verdict (Err (Fault close.Unclosed)) never answers = tt
+counts_none form verdict (Err NoMemory) never answers = tt
 
 -- ---- answers of the parts, together
 
-pub holds_by : {A : Type 0} (result : Result A CloseError) (verdict : Closing) (P : Type 0) → Answers verdict result → (verdict ≡ Closes → P) → OnOk result P
+pub holds_by : {A : Type 0} (result : Result A (Refusal CloseFault)) (verdict : Closing) (P : Type 0) → Answers verdict result → (verdict ≡ Closes → P) → OnOk result P
 holds_by (Ok done) verdict P answers shows = shows answers
 holds_by (Err error) verdict P answers shows = tt
 
@@ -225,13 +226,13 @@ large_by runs goal form quantity count small is large =
       least = subst (λ f. count ≤ (cnf_of f).variables) is large.2;
     })
 
-pub counts_by : {A : Type 0} (runs : List Run) (goal form : Term) (result : Result A CloseError) → nat_le (subterm_count goal) MAX_TERMS ≡ true → form ≡ normal runs goal
+pub counts_by : {A : Type 0} (runs : List Run) (goal form : Term) (result : Result A (Refusal CloseFault)) → nat_le (subterm_count goal) MAX_TERMS ≡ true → form ≡ normal runs goal
     → CountsVariables form result → CountsLarge runs goal result
 counts_by runs goal form (Ok done) small is counts = tt
-counts_by runs goal form (Err (close.Large quantity count)) small is counts = large_by runs goal form quantity count small is counts
-counts_by runs goal form (Err (close.Step number)) small is counts = tt
-counts_by runs goal form (Err close.Unclosed) small is counts = tt
-counts_by runs goal form (Err close.NoMemory) small is counts = tt
+counts_by runs goal form (Err (Fault (close.Large quantity count))) small is counts = large_by runs goal form quantity count small is counts
+counts_by runs goal form (Err (Fault (close.Step number))) small is counts = tt
+counts_by runs goal form (Err (Fault close.Unclosed)) small is counts = tt
+counts_by runs goal form (Err NoMemory) small is counts = tt
 
 -- a goal with few terms is refuted where its normal form is
 pub refutes_by : (runs : List Run) (goal form : Term) (found : Option Assignment) → nat_le (subterm_count goal) MAX_TERMS ≡ true → form ≡ normal runs goal
@@ -239,7 +240,7 @@ pub refutes_by : (runs : List Run) (goal form : Term) (found : Option Assignment
 refutes_by runs goal form None small is refuted = tt
 refutes_by runs goal form (Some a) small is refuted = (leb-true (subterm_count goal) MAX_TERMS small, ap (value (assignment_of a)) (sym is) ∙ refuted)
 
-pub seeks_by : (runs : List Run) (goal form : Term) (limit : ℕ) (result : Result Sought SeekError) → nat_le (subterm_count goal) MAX_TERMS ≡ true
+pub seeks_by : (runs : List Run) (goal form : Term) (limit : ℕ) (result : Result Sought (Refusal SeekFault)) → nat_le (subterm_count goal) MAX_TERMS ≡ true
     → form ≡ normal runs goal → SeeksForm form limit result → Seeks runs goal limit result
 seeks_by runs goal form limit (Ok (Valid log)) small is sought =
     (of_form runs goal log.items small ∙ ap (λ f. closing_of_form f log.items) (sym is) ∙ sought.0, subst (λ f. Lean (cnf_of f) log.items limit) is sought.1)
@@ -247,5 +248,5 @@ seeks_by runs goal form limit (Ok (Refuted assignment)) small is sought =
     (small_by runs goal form small is sought.0, ap (value (assignment_of assignment)) (sym is) ∙ sought.1)
 seeks_by runs goal form limit (Ok (Limit log)) small is sought =
     (small_by runs goal form small is sought.0, subst (λ f. Spent (cnf_of f) log.items limit) is sought.1)
-seeks_by runs goal form limit (Err (seek.Large quantity count)) small is sought = large_by runs goal form quantity count small is sought
-seeks_by runs goal form limit (Err seek.NoMemory) small is sought = tt
+seeks_by runs goal form limit (Err (Fault (seek.Large quantity count))) small is sought = large_by runs goal form quantity count small is sought
+seeks_by runs goal form limit (Err NoMemory) small is sought = tt

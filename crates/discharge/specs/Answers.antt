@@ -11,41 +11,42 @@ use Rattle.clause_check_spec.specs.Clause.{Clause, Cnf}
 use Rattle.clause_check_spec.specs.Log.{Step}
 use Rattle.clause_check_spec.specs.Step.{Follows, Refused, outcome}
 use Rattle.clause_check.specs.Logged.{Logged, clauses_of}
-use Rattle.clause_check.specs.declared.log.StepError.{StepError}
-use Rattle.clause_check.specs.declared.log.StepError.TheVariants.{Fault, NoMemory}
+use Rattle.attempt.specs.declared.refusal.Refusal.{Refusal}
+use Rattle.attempt.specs.declared.refusal.Refusal.TheVariants.{Fault, NoMemory}
+use Rattle.clause_check.specs.declared.hints.StepFault.{StepFault}
+use Rattle.discharge.specs.declared.error.CloseFault.{CloseFault}
+use Rattle.discharge.specs.declared.error.SeekFault.{SeekFault}
+use Rattle.discharge.specs.declared.error.CloseFault.TheVariants as close
+use Rattle.discharge.specs.declared.error.SeekFault.TheVariants as seek
 use Rattle.bit_blast_spec.specs.Goal.{cnf_of}
 use Rattle.sat_search_spec.specs.Logs.{Spent, Lean}
 use Rattle.discharge_spec.specs.declared.GoalQuantity.{GoalQuantity}
 use Rattle.discharge_spec.specs.declared.GoalQuantity.TheVariants.{Terms, Variables}
 use Rattle.tv_limits.specs.declared.TheConstants.{MAX_VARIABLES}
 use Rattle.discharge_spec.specs.Closing.{Closing, Closes, IsLarge, Fails, Unclosed, is_empty, closing_of_form, closing, IsWithin, IsSmall, IsFirstAbove}
-use Rattle.discharge.specs.declared.error.CloseError.{CloseError}
-use Rattle.discharge.specs.declared.error.CloseError.TheVariants as close
-use Rattle.discharge.specs.declared.error.SeekError.{SeekError}
-use Rattle.discharge.specs.declared.error.SeekError.TheVariants as seek
 use Rattle.discharge.specs.declared.seeking.Sought.{Sought}
 use Rattle.discharge.specs.declared.seeking.Sought.TheVariants.{Valid, Refuted, Limit}
 
 -- what a log comes to; out of memory is free
-abbrev pub Answers : {A : Type 0} → Closing → Result A CloseError → Type 0
+abbrev pub Answers : {A : Type 0} → Closing → Result A (Refusal CloseFault) → Type 0
 Answers verdict (Ok done) = verdict ≡ Closes
-Answers verdict (Err (close.Large quantity count)) = verdict ≡ IsLarge quantity
-Answers verdict (Err (close.Step number)) = verdict ≡ Fails number
-Answers verdict (Err close.Unclosed) = verdict ≡ Unclosed
-Answers verdict (Err close.NoMemory) = Unit {0}
+Answers verdict (Err (Fault (close.Large quantity count))) = verdict ≡ IsLarge quantity
+Answers verdict (Err (Fault (close.Step number))) = verdict ≡ Fails number
+Answers verdict (Err (Fault close.Unclosed)) = verdict ≡ Unclosed
+Answers verdict (Err NoMemory) = Unit {0}
 
-abbrev pub CountsLarge : {A : Type 0} → List Run → (goal : Term) → Result A CloseError → Type 0
-CountsLarge runs goal (Err (close.Large quantity count)) = IsFirstAbove runs goal quantity count
+abbrev pub CountsLarge : {A : Type 0} → List Run → (goal : Term) → Result A (Refusal CloseFault) → Type 0
+CountsLarge runs goal (Err (Fault (close.Large quantity count))) = IsFirstAbove runs goal quantity count
 CountsLarge runs goal other = Unit {0}
 
 -- for a goal in normal form
-abbrev pub CountsVariables : {A : Type 0} → (form : Term) → Result A CloseError → Type 0
-CountsVariables form (Err (close.Large quantity count)) =
+abbrev pub CountsVariables : {A : Type 0} → (form : Term) → Result A (Refusal CloseFault) → Type 0
+CountsVariables form (Err (Fault (close.Large quantity count))) =
     (quantity ≡ Variables) × (MAX_VARIABLES < count) × (count ≤ (cnf_of form).variables)
 CountsVariables form other = Unit {0}
 
 -- what adding the first of some steps to a log comes to
-abbrev pub TakesFirst : (before after : List Step) → (old new : Logged) → Result (Unit {0}) StepError → Type 0
+abbrev pub TakesFirst : (before after : List Step) → (old new : Logged) → Result (Unit {0}) (Refusal StepFault) → Type 0
 TakesFirst before after old new (Ok done) =
     (step : Step) × (before ≡ step ∷ after) × (outcome old.cnf.variables (clauses_of old) step.literals step.hints ≡ Follows) × (new.cnf ≡ old.cnf)
     × (new.added ≡ old.added ++ step.literals ∷ [])
@@ -55,9 +56,9 @@ TakesFirst before after old new (Err (Fault fault)) =
 TakesFirst before after old new (Err NoMemory) = Unit {0}
 
 -- why a log with it doesn't close a goal, where it is the step of a number
-abbrev pub refusal : StepError → (number : ℕ) → CloseError
-refusal (Fault fault) number = close.Step number
-refusal NoMemory number = close.NoMemory
+abbrev pub refusal : Refusal StepFault → (number : ℕ) → Refusal CloseFault
+refusal (Fault fault) number = Fault (close.Step number)
+refusal NoMemory number = NoMemory
 
 -- whether a clause is there and has no literal
 abbrev pub is_empty_some : Option Clause → Bool
@@ -83,17 +84,17 @@ IsSought form limit (Valid log) = (closing_of_form form log.items ≡ Closes) ×
 IsSought form limit (Refuted assignment) = HasFewVariables form × (value (assignment_of assignment) form ≡ Truth false)
 IsSought form limit (Limit log) = HasFewVariables form × Spent (cnf_of form) log.items limit
 
-abbrev pub SeeksForm : (form : Term) → (limit : ℕ) → Result Sought SeekError → Type 0
+abbrev pub SeeksForm : (form : Term) → (limit : ℕ) → Result Sought (Refusal SeekFault) → Type 0
 SeeksForm form limit (Ok sought) = IsSought form limit sought
-SeeksForm form limit (Err (seek.Large quantity count)) = (quantity ≡ Variables) × (MAX_VARIABLES < count) × (count ≤ (cnf_of form).variables)
-SeeksForm form limit (Err seek.NoMemory) = Unit {0}
+SeeksForm form limit (Err (Fault (seek.Large quantity count))) = (quantity ≡ Variables) × (MAX_VARIABLES < count) × (count ≤ (cnf_of form).variables)
+SeeksForm form limit (Err NoMemory) = Unit {0}
 
 -- The same for a goal, before its normal form is made: what isn't closed and has a quantity above its maximum is too
 -- large, and is neither refuted nor searched.
-abbrev pub Seeks : List Run → (goal : Term) → (limit : ℕ) → Result Sought SeekError → Type 0
+abbrev pub Seeks : List Run → (goal : Term) → (limit : ℕ) → Result Sought (Refusal SeekFault) → Type 0
 Seeks runs goal limit (Ok (Valid log)) = (closing runs goal log.items ≡ Closes) × Lean (cnf_of (normal runs goal)) log.items limit
 Seeks runs goal limit (Ok (Refuted assignment)) =
     IsSmall runs goal × (value (assignment_of assignment) (normal runs goal) ≡ Truth false)
 Seeks runs goal limit (Ok (Limit log)) = IsSmall runs goal × Spent (cnf_of (normal runs goal)) log.items limit
-Seeks runs goal limit (Err (seek.Large quantity count)) = IsFirstAbove runs goal quantity count
-Seeks runs goal limit (Err seek.NoMemory) = Unit {0}
+Seeks runs goal limit (Err (Fault (seek.Large quantity count))) = IsFirstAbove runs goal quantity count
+Seeks runs goal limit (Err NoMemory) = Unit {0}

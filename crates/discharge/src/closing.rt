@@ -10,11 +10,12 @@ ghost use Rattle.term_bank.specs.Nodes.{tree_at, Extends};
 ghost use Rattle.discharge_spec.specs.Closing as spec;
 ghost use Rattle.discharge.specs.Answers.{Answers, CountsLarge, CountsVariables, refusal};
 
-use crate::error::CloseError;
+use crate::error::CloseFault;
 use crate::limits::is_within;
 use crate::steps::Steps;
-use bit_blast::{BlastError, Blasted, blast};
-use clause_check::{Log, StepError};
+use attempt::Refusal;
+use bit_blast::{BlastFault, Blasted, blast};
+use clause_check::{Log, StepFault};
 use cnf_core::{Cnf, MAX_VARIABLE};
 use discharge_spec::GoalQuantity;
 use memory_spec::Run;
@@ -36,17 +37,21 @@ pub fn is_truth(bank: &Bank, form: TermId) -> bool
 }
 
 /// Why the step of a number doesn't follow.
-fn step_error(error: StepError, number: usize) -> CloseError
+fn step_error(error: Refusal<StepFault>, number: usize) -> Refusal<CloseFault>
     ensures { result ≡ refusal error number }
 {
     match error {
-        StepError::Fault(_) => CloseError::Step(number),
-        StepError::NoMemory => CloseError::NoMemory,
+        Refusal::Fault(_) => Refusal::Fault(CloseFault::Step(number)),
+        Refusal::NoMemory => Refusal::NoMemory,
     }
 }
 
 /// Adds the steps of a log to a checker that has none.
-fn add_steps<L: Steps>(alloc: Global, checker: &mut Log, log: &mut L) -> Result<(), CloseError>
+fn add_steps<L: Steps>(
+    alloc: Global,
+    checker: &mut Log,
+    log: &mut L,
+) -> Result<(), Refusal<CloseFault>>
     requires none { checker.old.added ≡ [] }
     requires variables { checker.old.cnf.variables ≤ MAX_VARIABLE }
     ensures { Answers (spec.checked checker.old.cnf.variables checker.old.cnf.clauses false 1
@@ -62,18 +67,18 @@ fn add_steps<L: Steps>(alloc: Global, checker: &mut Log, log: &mut L) -> Result<
     if checker.is_closed() {
         Ok(())
     } else {
-        Err(CloseError::Unclosed)
+        Err(Refusal::Fault(CloseFault::Unclosed))
     }
 }
 
 /// Checks a log over clauses.
-fn close_clauses<L: Steps>(alloc: Global, cnf: Cnf, log: &mut L) -> Result<(), CloseError>
+fn close_clauses<L: Steps>(alloc: Global, cnf: Cnf, log: &mut L) -> Result<(), Refusal<CloseFault>>
     requires { cnf.variables ≤ MAX_VARIABLE }
     ensures { Answers (spec.checked cnf.variables cnf.clauses false 1 (L.left log.old)) result }
 {
     match Log::new(alloc, cnf) {
         Ok(mut checker) => add_steps(alloc, &mut checker, log),
-        Err(_) => Err(CloseError::NoMemory),
+        Err(_) => Err(Refusal::NoMemory),
     }
 }
 
@@ -83,7 +88,7 @@ fn close_form<L: Steps>(
     bank: &Bank,
     form: TermId,
     log: &mut L,
-) -> Result<(), CloseError>
+) -> Result<(), Refusal<CloseFault>>
     requires { form < length bank.now }
     ensures answers { Answers (spec.closing_of_form (tree_at bank.now form) (L.left log.old))
         result }
@@ -94,8 +99,11 @@ fn close_form<L: Steps>(
     }
     match blast(alloc, bank, form, MAX_VARIABLES) {
         Ok(Blasted { cnf, .. }) => close_clauses(alloc, cnf, log),
-        Err(BlastError::Large(count)) => Err(CloseError::Large(GoalQuantity::Variables, count)),
-        Err(BlastError::NoMemory) => Err(CloseError::NoMemory),
+        Err(Refusal::Fault(BlastFault::Large(count))) => Err(Refusal::Fault(CloseFault::Large(
+            GoalQuantity::Variables,
+            count,
+        ))),
+        Err(Refusal::NoMemory) => Err(Refusal::NoMemory),
     }
 }
 
@@ -108,7 +116,7 @@ pub fn close<L: Steps>(
     goal: TermId,
     log: &mut L,
     runs: &[Run],
-) -> Result<(), CloseError>
+) -> Result<(), Refusal<CloseFault>>
     requires { goal < length bank.old }
     ensures answers { Answers (spec.closing (runs_of runs.now) (tree_at bank.old goal)
         (L.left log.old)) result }
@@ -123,11 +131,14 @@ pub fn close<L: Steps>(
 {
     match is_within(alloc, bank, goal) {
         Ok(true) => {}
-        Ok(false) => return Err(CloseError::Large(GoalQuantity::Terms, MAX_TERMS + 1)),
-        Err(_) => return Err(CloseError::NoMemory),
+        Ok(false) => return Err(Refusal::Fault(CloseFault::Large(
+            GoalQuantity::Terms,
+            MAX_TERMS + 1,
+        ))),
+        Err(_) => return Err(Refusal::NoMemory),
     }
     match normal(alloc, bank, goal, runs) {
         Ok(form) => close_form(alloc, bank, form, log),
-        Err(_) => Err(CloseError::NoMemory),
+        Err(_) => Err(Refusal::NoMemory),
     }
 }

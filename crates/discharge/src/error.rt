@@ -3,12 +3,11 @@
 ghost use Rattle.std.specs.Prelude.{◌≡◌};
 
 use discharge_spec::GoalQuantity;
-use std::alloc::AllocError;
 use thiserror::Error;
 
 /// Why a log doesn't close a goal.
 #[derive(Clone, Copy, Debug, Error)]
-pub enum CloseError {
+pub enum CloseFault {
     /// The quantity is above its maximum: it is at least so many.
     #[error("{0:?}: {1}")]
     Large(GoalQuantity, usize),
@@ -18,18 +17,12 @@ pub enum CloseError {
     /// The steps follow, and the last has a literal, or there is none.
     #[error("not closed")]
     Unclosed,
-    /// Out of memory.
-    #[error("out of memory")]
-    NoMemory,
 }
 
 /// Why the search for a log has no outcome.
 #[derive(Clone, Copy, Debug, Error)]
-pub enum SeekError {
+pub enum SeekFault {
     /// The quantity is above its maximum: it is at least so many.
     #[error("{0:?}: {1}")]
     Large(GoalQuantity, usize),
-    /// Out of memory.
-    #[error("out of memory")]
-    NoMemory,
 }

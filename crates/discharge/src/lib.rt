@@ -21,7 +21,7 @@ mod values;
 
 pub use closing::close;
 pub use discharge_spec::GoalQuantity;
-pub use error::{CloseError, SeekError};
+pub use error::{CloseFault, SeekFault};
 pub use guessing::refute;
 pub use laws::closed_goals_are_true;
 pub use memory_spec::Run;

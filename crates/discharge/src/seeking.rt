@@ -13,9 +13,10 @@ ghost use Rattle.discharge_spec.specs.Closing.{is_truth as is_truth_term};
 ghost use Rattle.discharge.specs.Answers.{Seeks, SeeksForm};
 
 use crate::closing::is_truth;
-use crate::error::SeekError;
+use crate::error::SeekFault;
 use crate::limits::is_within;
-use bit_blast::{BlastError, Blasted, blast, read_back};
+use attempt::Refusal;
+use bit_blast::{BlastFault, Blasted, blast, read_back};
 use discharge_spec::GoalQuantity;
 use memory_spec::Run;
 use sat_search::{Counts, Found, solve_counting};
@@ -57,7 +58,7 @@ impl Cost {
 }
 
 /// What a search over the clauses of a goal in normal form found.
-fn outcome(alloc: Global, blasted: &Blasted, found: Found) -> Result<Sought, SeekError>
+fn outcome(alloc: Global, blasted: &Blasted, found: Found) -> Result<Sought, Refusal<SeekFault>>
     ensures { (form : Term) (limit : ℕ) → sort_of form ≡ Some sort.Truth
         → TableLoadsFromVariables (visit form [] 1).out
         → blasted.now.table ≡ (visit form [] 1).out → blasted.now.cnf ≡ cnf_of form
@@ -68,7 +69,7 @@ fn outcome(alloc: Global, blasted: &Blasted, found: Found) -> Result<Sought, See
         Found::Closed(log) => Ok(Sought::Valid(log)),
         Found::Model(bits) => match read_back(alloc, blasted, bits.as_slice()) {
             Ok(assignment) => Ok(Sought::Refuted(assignment)),
-            Err(_) => Err(SeekError::NoMemory),
+            Err(_) => Err(Refusal::NoMemory),
         },
         Found::Limit(log) => Ok(Sought::Limit(log)),
     }
@@ -81,7 +82,7 @@ fn seek_form(
     form: TermId,
     limit: usize,
     cost: &mut Cost,
-) -> Result<Sought, SeekError>
+) -> Result<Sought, Refusal<SeekFault>>
     requires { form < length bank.now }
     ensures { sort_of (tree_at bank.now form) ≡ Some sort.Truth
         → TableLoadsFromVariables (visit (tree_at bank.now form) [] 1).out
@@ -95,11 +96,14 @@ fn seek_form(
             cost.variables = blasted.cnf.variables();
             match solve_counting(alloc, &blasted.cnf, limit, &mut cost.counts) {
                 Ok(found) => outcome(alloc, &blasted, found),
-                Err(_) => Err(SeekError::NoMemory),
+                Err(_) => Err(Refusal::NoMemory),
             }
         }
-        Err(BlastError::Large(count)) => Err(SeekError::Large(GoalQuantity::Variables, count)),
-        Err(BlastError::NoMemory) => Err(SeekError::NoMemory),
+        Err(Refusal::Fault(BlastFault::Large(count))) => Err(Refusal::Fault(SeekFault::Large(
+            GoalQuantity::Variables,
+            count,
+        ))),
+        Err(Refusal::NoMemory) => Err(Refusal::NoMemory),
     }
 }
 
@@ -111,7 +115,7 @@ pub fn seek_counting(
     limit: usize,
     runs: &[Run],
     cost: &mut Cost,
-) -> Result<Sought, SeekError>
+) -> Result<Sought, Refusal<SeekFault>>
     requires { goal < length bank.old }
     ensures seeks { sort_of (tree_at bank.old goal) ≡ Some sort.Truth
         → Seeks (runs_of runs.now) (tree_at bank.old goal) limit result }
@@ -121,12 +125,15 @@ pub fn seek_counting(
     hold_runs(runs);
     match is_within(alloc, bank, goal) {
         Ok(true) => {}
-        Ok(false) => return Err(SeekError::Large(GoalQuantity::Terms, MAX_TERMS + 1)),
-        Err(_) => return Err(SeekError::NoMemory),
+        Ok(false) => return Err(Refusal::Fault(SeekFault::Large(
+            GoalQuantity::Terms,
+            MAX_TERMS + 1,
+        ))),
+        Err(_) => return Err(Refusal::NoMemory),
     }
     match normal(alloc, bank, goal, runs) {
         Ok(form) => seek_form(alloc, bank, form, limit, cost),
-        Err(_) => Err(SeekError::NoMemory),
+        Err(_) => Err(Refusal::NoMemory),
     }
 }
 
@@ -138,7 +145,7 @@ pub fn seek(
     goal: TermId,
     limit: usize,
     runs: &[Run],
-) -> Result<Sought, SeekError>
+) -> Result<Sought, Refusal<SeekFault>>
     requires { goal < length bank.old }
     ensures seeks { sort_of (tree_at bank.old goal) ≡ Some sort.Truth
         → Seeks (runs_of runs.now) (tree_at bank.old goal) limit result }

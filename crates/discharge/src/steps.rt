@@ -4,7 +4,8 @@ ghost use Rattle.std.specs.Prelude.{◌≡◌, ◌<◌, ◌≤◌, length, List}
 ghost use Rattle.clause_check_spec.specs.Log.{Step as step};
 ghost use Rattle.discharge.specs.Answers.{TakesFirst};
 
-use clause_check::{Log, StepError};
+use attempt::Refusal;
+use clause_check::{Log, StepFault};
 use cnf_core::MAX_VARIABLE;
 use sat_search_analysis::Step;
 use std::alloc::Global;
@@ -19,7 +20,7 @@ pub trait Steps {
         ensures { result ≡ length (left self.now) };
 
     /// Takes the first step, and adds it to a checker if it follows.
-    fn add_first(&mut self, alloc: Global, checker: &mut Log) -> Result<(), StepError>
+    fn add_first(&mut self, alloc: Global, checker: &mut Log) -> Result<(), Refusal<StepFault>>
         requires some { 0 < length (left self.old) }
         requires variables { checker.old.cnf.variables ≤ MAX_VARIABLE }
         ensures { TakesFirst (left self.old) (left self.new) checker.old checker.new result };
@@ -39,7 +40,7 @@ impl<'a> Steps for Listing<'a> {
         self.steps.len()
     }
 
-    fn add_first(&mut self, _: Global, checker: &mut Log) -> Result<(), StepError> {
+    fn add_first(&mut self, _: Global, checker: &mut Log) -> Result<(), Refusal<StepFault>> {
         match self.steps.split_first() {
             Some((step, left)) => {
                 self.steps = left;

@@ -26,4 +26,4 @@ pub use elf_read_spec::SymbolValues;
 pub use loaded::Image;
 pub use memory_spec::Run;
 pub use parts::{Extent, Segment, Symbol};
-pub use reader::{ElfError, ElfFault, read};
+pub use reader::{ElfFault, read};

@@ -6,7 +6,7 @@ ghost use Rattle.elf_read_spec.specs.declared.ElfKind.{ElfKind};
 ghost use Rattle.elf_read.specs.Faults.{KeepsBelow};
 ghost use Rattle.elf_read.specs.Offsets.{IsRising};
 ghost use Rattle.elf_read.specs.Refusal.{IsRefusal};
-ghost use Rattle.elf_read.specs.declared.reader.ElfError.TheVariants.{Fault, NoMemory};
+ghost use Rattle.attempt.specs.declared.refusal.Refusal.TheVariants.{Fault};
 
 use crate::Image;
 use crate::header::check_header;
@@ -15,9 +15,10 @@ use crate::strings::Strings;
 use crate::symbols::{
     defined_symbols, has_strings, is_table, name_fault, name_offsets, strings, symbol_table,
 };
+use attempt::Refusal;
 use elf_read_spec::ElfKind;
 use elf_read_spec::fields::{E_SHNUM, E_SHOFF, EHDR_SIZE, PHDR_SIZE, SHDR_SIZE};
-use std::alloc::{AllocError, Global};
+use std::alloc::Global;
 use thiserror::Error;
 
 /// Why and where a file is refused: its first fault.
@@ -30,35 +31,16 @@ pub struct ElfFault {
     pub offset: usize,
 }
 
-/// Why there is no image.
-#[derive(Clone, Copy, Debug, PartialEq, Eq, Error)]
-pub enum ElfError {
-    /// The bytes are no executable that is read here.
-    #[error(transparent)]
-    Fault(ElfFault),
-    /// There was no memory.
-    #[error("no memory")]
-    NoMemory,
-}
-
-impl From<AllocError> for ElfError {
-    ghost from_gives = { λ _ error. error ≡ NoMemory };
-
-    fn from(_: AllocError) -> Self {
-        ElfError::NoMemory
-    }
-}
-
-impl From<ElfFault> for ElfError {
+impl From<ElfFault> for Refusal<ElfFault> {
     ghost from_gives = { λ fault error. error ≡ Fault fault };
 
     fn from(fault: ElfFault) -> Self {
-        ElfError::Fault(fault)
+        Refusal::Fault(fault)
     }
 }
 
 /// Reads the bytes of a file into their image, in memory linear in the file.
-pub fn read<'a>(alloc: Global, bytes: &'a [u8]) -> Result<Image<'a>, ElfError>
+pub fn read<'a>(alloc: Global, bytes: &'a [u8]) -> Result<Image<'a>, Refusal<ElfFault>>
     ensures accepted { IfOk result (λ image. spec.IsElf bytes.now image) }
     ensures refused { IfErr result (λ error. IsRefusal bytes.now error) }
 {
@@ -76,7 +58,7 @@ pub fn read<'a>(alloc: Global, bytes: &'a [u8]) -> Result<Image<'a>, ElfError>
 }
 
 /// Refuses a file for the first fault of its segments.
-fn check_loads(alloc: Global, bytes: &[u8], loads: &[usize]) -> Result<(), ElfError>
+fn check_loads(alloc: Global, bytes: &[u8], loads: &[usize]) -> Result<(), Refusal<ElfFault>>
     requires below { KeepsBelow bytes.now (spec.rank ElfKind.SegmentRange) }
     requires loads { loads.now ≡ spec.loads bytes.now }
     requires inside { All (λ at. at + PHDR_SIZE ≤ length bytes.now) loads.now }
@@ -85,13 +67,13 @@ fn check_loads(alloc: Global, bytes: &[u8], loads: &[usize]) -> Result<(), ElfEr
     ensures refused { IfErr result (λ error. IsRefusal bytes.now error) }
 {
     if let Some(offset) = range_fault(bytes, loads) {
-        return Err(ElfError::Fault(ElfFault {
+        return Err(Refusal::Fault(ElfFault {
             kind: ElfKind::SegmentRange,
             offset,
         }));
     }
     if let Some(offset) = overlap_fault(alloc, bytes, loads)? {
-        return Err(ElfError::Fault(ElfFault {
+        return Err(Refusal::Fault(ElfFault {
             kind: ElfKind::SegmentOverlap,
             offset,
         }));

@@ -8,7 +8,8 @@ use Rattle.term_core_spec.specs.declared.Family.TheVariants.{Parameter, Local, S
 use Rattle.term_core_spec.specs.declared.Variable.{Variable}
 use Rattle.term_core_spec.specs.Term.{Term, constant, open_term, add, multiply, less, low, store}
 use Rattle.term_core_spec.specs.Value.{Value, Truth, Number, Bytes, Assignment}
-use Rattle.graph_core_spec.specs.TransitionSystem.{TransitionSystem, Mark}
+use Rattle.graph_core_spec.specs.TransitionSystem.{TransitionSystem}
+use Rattle.graph_core_spec.specs.declared.Mark.{Mark}
 use Rattle.graph_core_spec.specs.declared.Next.TheVariants.{At, Ret, Err}
 use Rattle.graph_core_spec.specs.Graph.{Node, Basic, Cond, Call, Graph}
 use Rattle.graph_core_spec.specs.Run.{State, Running, Returned, Failed, system_of}

@@ -2,7 +2,7 @@
 
 ghost use Rattle.std.specs.Prelude.{◌≡◌, ◌⊎◌, ℕ, ◌+◌, Bool, true, false, List};
 ghost use Rattle.graph_core_spec.specs.TransitionSystem.{TransitionSystem, IsTransitionSystem};
-ghost use Rattle.graph_core_spec.specs.TransitionSystem.{Mark};
+ghost use Rattle.graph_core_spec.specs.declared.Mark.{Mark};
 ghost use Rattle.graph_core_spec.specs.TransitionSystem.{AreCounted, Always, StopsAt, after};
 ghost use Rattle.graph_core_spec.specs.TransitionSystem.{arrivals};
 ghost use Rattle.graph_core_spec.specs.TransitionSystem.{marks_left, stopped};

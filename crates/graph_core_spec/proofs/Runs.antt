@@ -2,7 +2,8 @@
 use Rattle.std.proofs.Common.{◌≡◌, ◌∙◌, ◌⊎◌, ℕ, ◌+◌, ◌≤◌, zero, suc, Bool, true, false, nat_le, List, [], ◌∷◌, refl, sym, ap, ap₂, inl, inr, arith, ◌-◌, ◌||◌}
 use Rattle.std.proofs.lemmas.List.Elements.{All-head, All-tail}
 use Rattle.std.proofs.lemmas.Bool.{or_cases, or_left, or_right, leb-true, le-leb, cases_order, false_from_ne_true, cases_lt, lt-leb}
-use Rattle.graph_core_spec.specs.TransitionSystem.{TransitionSystem, IsTransitionSystem, Mark, AreCounted, Always, after, arrivals, tick, reached, stopped, marks_left, StopsAt}
+use Rattle.graph_core_spec.specs.TransitionSystem.{TransitionSystem, IsTransitionSystem, AreCounted, Always, after, arrivals, tick, reached, stopped, marks_left, StopsAt}
+use Rattle.graph_core_spec.specs.declared.Mark.{Mark}
 
 module _ {S : Type 0} (w : TransitionSystem S) where
   -- a run continues from its state as any run from there

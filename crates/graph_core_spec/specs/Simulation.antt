@@ -1,7 +1,8 @@
 -- When two transition systems, a binary one and a source one, agree up to their stops. A relation of states is a
 -- family of tests that all have to hold: the index is an address, at which memories are compared.
 use Rattle.std.specs.Prelude.{◌≡◌, ◌⊎◌, ℕ, ◌<◌, ◌≤◌, Bool, true, false, List, map, Contains}
-use Rattle.graph_core_spec.specs.TransitionSystem.{TransitionSystem, Mark, AreCounted, after, stopped, StopsAt, IsSafe, KeepsBounds}
+use Rattle.graph_core_spec.specs.TransitionSystem.{TransitionSystem, AreCounted, after, stopped, StopsAt, IsSafe, KeepsBounds}
+use Rattle.graph_core_spec.specs.declared.Mark.{Mark}
 
 module _ (A C : Type 0) where
   -- a stop on each side, and the relation of the states there

@@ -1,5 +1,6 @@
 -- Transition systems over any type of states, and their runs.
 use Rattle.std.specs.Prelude.{◌≡◌, ℕ, ◌<◌, ◌≤◌, ◌||◌, nat_le, Bool, true, false, if◌then◌else◌, zero, suc, List, [], ◌∷◌, ◌-◌, map, All}
+use Rattle.graph_core_spec.specs.declared.Mark.{Mark}
 
 -- a deterministic system with numbered nodes. An ended state, which has returned or failed, steps to itself.
 -- A state is at a node only between calls: inside a call, and at an end, it is at none
@@ -25,11 +26,6 @@ module _ {S : Type 0} (w : TransitionSystem S) where
   unfoldable pub arrivals : ℕ → ℕ → S → ℕ
   arrivals n zero s = 0
   arrivals n (suc k) s = tick (w.at n (w.step s)) (arrivals n k (w.step s))
-
--- a node, and a number of arrivals at it
-pub record Mark : Type 0 where
-  pub node : ℕ
-  pub count : ℕ
 
 -- each counts at least one arrival
 abbrev pub AreCounted : List Mark → Type 0

@@ -18,3 +18,12 @@ pub enum Next {
     /// nowhere: the run fails
     Err,
 }
+
+/// A node, and a number of arrivals at it.
+#[derive(Clone, Copy)]
+pub struct Mark {
+    /// The node.
+    pub node: usize,
+    /// How many arrivals.
+    pub count: usize,
+}

@@ -1,6 +1,7 @@
 //! What the inlined graph binds in place of the call: the inputs, and the callee's own variables.
 
-ghost use Rattle.std.specs.Prelude.{◌≡◌, ◌<◌, ◌++◌, List, [], length, map, filter, OnOk, IfOk, None};
+ghost use Rattle.std.specs.Prelude.{◌≡◌, ◌<◌, ◌++◌, List, [], length, map, filter, OnOk, IfOk};
+ghost use Rattle.std.specs.Prelude.{None};
 ghost use Rattle.term_core_spec.specs.Term.{Term, Leaf};
 ghost use Rattle.term_bank.specs.Nodes.{Holds};
 ghost use Rattle.graph_core_spec.specs.Graph.{Binding};
@@ -121,7 +122,8 @@ fn shared_of(alloc: Global, inputs: &[SharedBinding]) -> Result<Vec<SharedBindin
 }
 
 /// What is bound where the callee begins: what the inputs bind of memory and registers, then all of
-/// its own variables. The table has where the caller's terms are in the graph, which gets some more.
+/// its own variables. The table has where the caller's terms are in the graph, which gets some
+/// more.
 pub(crate) fn start_bindings(
     alloc: Global,
     graph: &mut Graph,
@@ -131,7 +133,8 @@ pub(crate) fn start_bindings(
     instance: usize,
 ) -> Result<Vec<SharedBinding>, AllocError>
     requires { AreSharedBindings (length table.now) inputs.now }
-    ensures found { (from : List Term) → BindingsTaken None from graph.old.trees table.now inputs.now
+    ensures found { (from : List Term)
+        → BindingsTaken None from graph.old.trees table.now inputs.now
         → IfOk result (λ found. AreShared graph.new.trees
         (spec.start_bindings own.now instance (map (shared_binding_of from) inputs.now))
         found.items) }

@@ -16,8 +16,10 @@ use Rattle.pair_setup_spec.specs.Code.{HasSoundCode, IsSoundCode, of_reach}
 use Rattle.pair_setup_spec.specs.Outcome.{IsReached}
 use Rattle.pair_setup.specs.Codes.{AreSound, AddsSound, AddsNamed, AreCodedOf, IsReachErrorAt, IsCodeErrorAt, IsFirstCodeError}
 use Rattle.pair_setup.specs.Walks.{AreSoundOf}
-use Rattle.pair_setup.specs.declared.outcome.PairError.{PairError}
-use Rattle.pair_setup.specs.declared.outcome.PairError.TheVariants.{Refused, Code, Nodes, NoMemory}
+use Rattle.attempt.specs.declared.refusal.Refusal.{Refusal}
+use Rattle.attempt.specs.declared.refusal.Refusal.TheVariants.{Fault, NoMemory}
+use Rattle.pair_setup.specs.declared.outcome.PairFault.{PairFault}
+use Rattle.pair_setup.specs.declared.outcome.PairFault.TheVariants.{Refused, Code, Nodes}
 use Rattle.pair_setup.proofs.Added.{none_contained, only_contained}
 use Rattle.pair_setup.proofs.Prefixes.{split-at}
 
@@ -83,11 +85,11 @@ module _ (image : Image) where
         | inr reaches ↦ record { sound = sound-on entry one is.sound reaches; closed = λ other on. all other (reaches-on entry one other reaches on) }
       ]
 
-  pub code-error : (name : List ℕ) (entry index : ℕ) (error : PairError) → function_named image name ≡ One entry → IsReachErrorAt image entry index error
+  pub code-error : (name : List ℕ) (entry index : ℕ) (error : Refusal PairFault) → function_named image name ≡ One entry → IsReachErrorAt image entry index error
       → IsCodeErrorAt image name index error
-  code-error name entry index (Code fault at) is h = (h.0, of_reach entry fault.kind fault.address is h.1)
-  code-error name entry index (Refused kind named) is h = absurd h
-  code-error name entry index Nodes is h = absurd h
+  code-error name entry index (Fault (Code fault at)) is h = (h.0, of_reach entry fault.kind fault.address is h.1)
+  code-error name entry index (Fault (Refused kind named)) is h = absurd h
+  code-error name entry index (Fault Nodes) is h = absurd h
   code-error name entry index NoMemory is h = tt
 
   -- ---- a list
@@ -162,15 +164,15 @@ module _ (image : Image) where
   coded-sound whole list firsts entries are =
       All-from_get_or (IsSoundCode image) list [] (λ i below. (get_or firsts i 0, are.firsts_are i (get_or list i []) (slice_get-get_or list i [] below)))
 
-  pub first-code-error : (list : List (List ℕ)) (i : ℕ) (name : List ℕ) (error : PairError) → slice_get list i ≡ Some name → All (IsSoundCode image) (take i list)
+  pub first-code-error : (list : List (List ℕ)) (i : ℕ) (name : List ℕ) (error : Refusal PairFault) → slice_get list i ≡ Some name → All (IsSoundCode image) (take i list)
       → IsCodeErrorAt image name i error → IsFirstCodeError image list error
-  first-code-error list i name (Code fault at) there earlier h = (
+  first-code-error list i name (Fault (Code fault at)) there earlier h = (
     name,
     subst (λ m. slice_get list m ≡ Some name) (sym h.0) there,
     record { prefix = take i list; rest = drop (i + 1) list; split = split-at list i name there; earlier = earlier; fault = h.1 },
   )
-  first-code-error list i name (Refused kind named) there earlier h = absurd h
-  first-code-error list i name Nodes there earlier h = absurd h
+  first-code-error list i name (Fault (Refused kind named)) there earlier h = absurd h
+  first-code-error list i name (Fault Nodes) there earlier h = absurd h
   first-code-error list i name NoMemory there earlier h = tt
 
 pub added-named : {E : Type 0} (image : Image) (name : List ℕ) (entry : ℕ) (old new : List ℕ) (r : Result ℕ E) → function_named image name ≡ One entry

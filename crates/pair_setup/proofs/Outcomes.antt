@@ -26,8 +26,10 @@ use Rattle.pair_setup.specs.Sizes.{AnyLargeCode, AnyLargeSource}
 use Rattle.pair_setup.specs.declared.outcome.Function.{Function}
 use Rattle.pair_setup.specs.declared.outcome.Pairs.{Pairs}
 use Rattle.pair_setup.specs.declared.outcome.Named.TheVariants.{Nothing, Listed, Declared}
-use Rattle.pair_setup.specs.declared.outcome.PairError.{PairError}
-use Rattle.pair_setup.specs.declared.outcome.PairError.TheVariants.{Refused, Code, Nodes, NoMemory}
+use Rattle.attempt.specs.declared.refusal.Refusal.{Refusal}
+use Rattle.attempt.specs.declared.refusal.Refusal.TheVariants.{Fault, NoMemory}
+use Rattle.pair_setup.specs.declared.outcome.PairFault.{PairFault}
+use Rattle.pair_setup.specs.declared.outcome.PairFault.TheVariants.{Refused, Code, Nodes}
 use Rattle.pair_setup.proofs.Entries.{named-sized, coded-sound}
 
 -- ---- sizes of what is reached
@@ -46,31 +48,31 @@ entry-sized image list entry r = reached-sized image r.from entry (named-sized i
 module _ (image : Image) (unit : Typed) (names list : List (List ℕ)) where
   -- ---- faults
 
-  pub nothing-error : length list ≡ 0 → IsPairError image unit names list (Refused NothingListed Nothing)
+  pub nothing-error : length list ≡ 0 → IsPairError image unit names list (Fault (Refused NothingListed Nothing))
   nothing-error none = (codes "-", refl, nothing_listed (nil_from_length list none))
 
-  pub name-error : (error : PairError) → IsFirstNameError image unit names list error → IsPairError image unit names list error
-  name-error (Refused kind named) h = (h.0, h.1, of_names kind h.0 h.2)
-  name-error (Code fault index) h = absurd h
-  name-error Nodes h = absurd h
+  pub name-error : (error : Refusal PairFault) → IsFirstNameError image unit names list error → IsPairError image unit names list error
+  name-error (Fault (Refused kind named)) h = (h.0, h.1, of_names kind h.0 h.2)
+  name-error (Fault (Code fault index)) h = absurd h
+  name-error (Fault Nodes) h = absurd h
   name-error NoMemory h = tt
 
   pub symbols : All (HasNames image unit) list → All (λ (name : List ℕ). function_named image name ≢ Absent) list
   symbols all = All-weaker (HasNames image unit) (λ (name : List ℕ). function_named image name ≢ Absent) (λ name h. h.symbol) list all
 
   module _ (all : All (HasNames image unit) list) where
-    pub code-fault : (error : PairError) → IsFirstCodeError image list error → IsPairError image unit names list error
-    code-fault (Code fault index) h = (h.0, h.1, record { names = all; first = h.2 })
-    code-fault (Refused kind named) h = absurd h
-    code-fault Nodes h = absurd h
+    pub code-fault : (error : Refusal PairFault) → IsFirstCodeError image list error → IsPairError image unit names list error
+    code-fault (Fault (Code fault index)) h = (h.0, h.1, record { names = all; first = h.2 })
+    code-fault (Fault (Refused kind named)) h = absurd h
+    code-fault (Fault Nodes) h = absurd h
     code-fault NoMemory h = tt
 
-    pub depth-fault : All (IsSoundCode image) list → (error : PairError) → IsFirstDepthError image unit list error → IsPairError image unit names list error
-    depth-fault sound (Refused kind (Listed index)) h = (h.0, h.1, of_reach kind h.0 all sound h.2)
-    depth-fault sound (Refused kind Nothing) h = absurd h
-    depth-fault sound (Refused kind (Declared number)) h = absurd h
-    depth-fault sound (Code fault index) h = absurd h
-    depth-fault sound Nodes h = absurd h
+    pub depth-fault : All (IsSoundCode image) list → (error : Refusal PairFault) → IsFirstDepthError image unit list error → IsPairError image unit names list error
+    depth-fault sound (Fault (Refused kind (Listed index))) h = (h.0, h.1, of_reach kind h.0 all sound h.2)
+    depth-fault sound (Fault (Refused kind Nothing)) h = absurd h
+    depth-fault sound (Fault (Refused kind (Declared number))) h = absurd h
+    depth-fault sound (Fault (Code fault index)) h = absurd h
+    depth-fault sound (Fault Nodes) h = absurd h
     depth-fault sound NoMemory h = tt
 
   pub are-checked : (graph : List (List ℕ)) (marks : List Bool) (functions : List Function) (numbers firsts entries : List ℕ) → ArePassed image unit names graph marks list numbers
@@ -146,13 +148,13 @@ module _ (image : Image) (unit : Typed) (names list : List (List ℕ)) where
         none (inl large) = small.code large
         none (inr large) = small.source large
 
-    pub large-error : (error : PairError) → IsLargeError image unit names numbers entries error → IsPairError image unit names list error
-    large-error (Refused kind named) h = absurd h
-    large-error (Code fault index) h = absurd h
-    large-error Nodes (inl any) =
+    pub large-error : (error : Refusal PairFault) → IsLargeError image unit names numbers entries error → IsPairError image unit names list error
+    large-error (Fault (Refused kind named)) h = absurd h
+    large-error (Fault (Code fault index)) h = absurd h
+    large-error (Fault Nodes) (inl any) =
         let r = (c.entries_are any.entry).0 any.among in
         record { no_fault = no-faults nothing; listed = r.listed; is_listed = r.is_listed; large = in_code r.from any.entry r.from_is r.reached any.large }
-    large-error Nodes (inr any) =
+    large-error (Fault Nodes) (inr any) =
         let l = any.large in
         let r = c.numbers_are.only any.number any.among in
         record {

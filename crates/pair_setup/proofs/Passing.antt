@@ -16,8 +16,10 @@ use Rattle.pair_setup.specs.Globals.{AreMisplaced}
 use Rattle.pair_setup.specs.Names.{IsDeclaredAt, IsLacking, IsUsedMarked, IsLeast, IsFineAt, AreFine, AddsReached, IsReachedFrom, IsPassed, ArePassed, IsNameError, refusal_of}
 use Rattle.pair_setup.specs.Answers.{IsFirstNameError}
 use Rattle.pair_setup.specs.declared.outcome.Named.TheVariants.{Nothing, Listed, Declared}
-use Rattle.pair_setup.specs.declared.outcome.PairError.{PairError}
-use Rattle.pair_setup.specs.declared.outcome.PairError.TheVariants.{Refused, Code, Nodes, NoMemory}
+use Rattle.attempt.specs.declared.refusal.Refusal.{Refusal}
+use Rattle.attempt.specs.declared.refusal.Refusal.TheVariants.{Fault, NoMemory}
+use Rattle.pair_setup.specs.declared.outcome.PairFault.{PairFault}
+use Rattle.pair_setup.specs.declared.outcome.PairFault.TheVariants.{Refused, Code, Nodes}
 use Rattle.pair_setup.proofs.Added.{none_contained, only_contained}
 use Rattle.pair_setup.proofs.Numbering.{IsNumbering}
 use Rattle.pair_setup.proofs.Prefixes.{split-at}
@@ -132,19 +134,19 @@ module _ (image : Image) (unit : Typed) (names graph : List (List ℕ)) (marks :
       ]
 
   -- the fault of the first that has one
-  pub first-name-error : (list : List (List ℕ)) (i : ℕ) (listed : List ℕ) (error : PairError) → slice_get list i ≡ Some listed → All (HasNames image unit) (take i list)
+  pub first-name-error : (list : List (List ℕ)) (i : ℕ) (listed : List ℕ) (error : Refusal PairFault) → slice_get list i ≡ Some listed → All (HasNames image unit) (take i list)
       → IsNameError image unit names listed i error → IsFirstNameError image unit names list error
-  first-name-error list i listed (Refused kind Nothing) there earlier h = absurd h.1
-  first-name-error list i listed (Refused kind (Listed index)) there earlier h = (
+  first-name-error list i listed (Fault (Refused kind Nothing)) there earlier h = absurd h.1
+  first-name-error list i listed (Fault (Refused kind (Listed index))) there earlier h = (
     h.0,
     subst (λ m. slice_get list m ≡ Some h.0) (sym h.1.0) (subst (λ x. slice_get list i ≡ Some x) (sym h.1.1) there),
     record { listed = listed; prefix = take i list; rest = drop (i + 1) list; split = split-at list i listed there; earlier = earlier; fault = h.2 },
   )
-  first-name-error list i listed (Refused kind (Declared number)) there earlier h = (
+  first-name-error list i listed (Fault (Refused kind (Declared number))) there earlier h = (
     h.0,
     h.1,
     record { listed = listed; prefix = take i list; rest = drop (i + 1) list; split = split-at list i listed there; earlier = earlier; fault = h.2 },
   )
-  first-name-error list i listed (Code fault index) there earlier h = absurd h
-  first-name-error list i listed Nodes there earlier h = absurd h
+  first-name-error list i listed (Fault (Code fault index)) there earlier h = absurd h
+  first-name-error list i listed (Fault Nodes) there earlier h = absurd h
   first-name-error list i listed NoMemory there earlier h = tt

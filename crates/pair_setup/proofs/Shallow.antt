@@ -27,8 +27,10 @@ use Rattle.pair_setup.specs.Depths.{IsShallowStack, IsDepthOf, IsSoundFunction, 
 use Rattle.pair_setup.specs.declared.reach.Depth.TheVariants.{Stack, Fault}
 use Rattle.pair_setup.specs.declared.outcome.Function.{Function}
 use Rattle.pair_setup.specs.declared.outcome.Named.TheVariants.{Nothing, Listed, Declared}
-use Rattle.pair_setup.specs.declared.outcome.PairError.{PairError}
-use Rattle.pair_setup.specs.declared.outcome.PairError.TheVariants.{Refused, Code, Nodes, NoMemory}
+use Rattle.attempt.specs.declared.refusal.Refusal.{Refusal}
+use Rattle.attempt.specs.declared.refusal.Refusal.TheVariants as refusal
+use Rattle.pair_setup.specs.declared.outcome.PairFault.{PairFault}
+use Rattle.pair_setup.specs.declared.outcome.PairFault.TheVariants.{Refused, Code, Nodes}
 use Rattle.pair_setup.proofs.Typing.{body-declared}
 use Rattle.pair_setup.proofs.Numbering.{IsNumbering}
 use Rattle.pair_setup.proofs.NameFaults.{calls_are_declared}
@@ -126,15 +128,15 @@ module _ (image : Image) (unit : Typed) where
   all-shallow list functions d are =
       All-from_get_or (IsShallow image unit) list [] (λ i below. (are.each i (get_or list i []) d (slice_get-get_or list i [] below)).shallow)
 
-  pub first-depth-error : (list : List (List ℕ)) (i : ℕ) (name : List ℕ) (entry : ℕ) (error : PairError) → slice_get list i ≡ Some name
+  pub first-depth-error : (list : List (List ℕ)) (i : ℕ) (name : List ℕ) (entry : ℕ) (error : Refusal PairFault) → slice_get list i ≡ Some name
       → function_named image name ≡ One entry → All (IsShallow image unit) (take i list) → IsDepthErrorAt image unit name entry i error → IsFirstDepthError image unit list error
-  first-depth-error list i name entry (Refused kind Nothing) there is earlier h = absurd h
-  first-depth-error list i name entry (Refused kind (Listed index)) there is earlier h = (
+  first-depth-error list i name entry (refusal.Fault (Refused kind Nothing)) there is earlier h = absurd h
+  first-depth-error list i name entry (refusal.Fault (Refused kind (Listed index))) there is earlier h = (
     name,
     subst (λ m. slice_get list m ≡ Some name) (sym h.0) there,
     record { prefix = take i list; rest = drop (i + 1) list; split = split-at list i name there; earlier = earlier; entry = entry; entry_is = is; fault = h.1 },
   )
-  first-depth-error list i name entry (Refused kind (Declared number)) there is earlier h = absurd h
-  first-depth-error list i name entry (Code fault at) there is earlier h = absurd h
-  first-depth-error list i name entry Nodes there is earlier h = absurd h
-  first-depth-error list i name entry NoMemory there is earlier h = tt
+  first-depth-error list i name entry (refusal.Fault (Refused kind (Declared number))) there is earlier h = absurd h
+  first-depth-error list i name entry (refusal.Fault (Code fault at)) there is earlier h = absurd h
+  first-depth-error list i name entry (refusal.Fault Nodes) there is earlier h = absurd h
+  first-depth-error list i name entry refusal.NoMemory there is earlier h = tt

@@ -15,8 +15,10 @@ use Rattle.pair_setup.specs.declared.outcome.Function.{Function}
 use Rattle.pair_setup.specs.declared.outcome.Pairs.{Pairs}
 use Rattle.pair_setup.specs.declared.outcome.Named.{Named}
 use Rattle.pair_setup.specs.declared.outcome.Named.TheVariants.{Nothing, Listed, Declared}
-use Rattle.pair_setup.specs.declared.outcome.PairError.{PairError}
-use Rattle.pair_setup.specs.declared.outcome.PairError.TheVariants.{Refused, Code, Nodes, NoMemory}
+use Rattle.attempt.specs.declared.refusal.Refusal.{Refusal}
+use Rattle.attempt.specs.declared.refusal.Refusal.TheVariants.{Fault, NoMemory}
+use Rattle.pair_setup.specs.declared.outcome.PairFault.{PairFault}
+use Rattle.pair_setup.specs.declared.outcome.PairFault.TheVariants.{Refused, Code, Nodes}
 
 -- the functions with the names of the list
 abbrev pub functions_of : List (List ℕ) → List Function → List spec.Function
@@ -34,19 +36,19 @@ IsNamed names list (Listed index) name = slice_get list index ≡ Some name
 IsNamed names list (Declared number) name = IsNumber names number name
 
 -- this is why the list has no pairs; out of memory may come at any time
-abbrev pub IsPairError : Image → Typed → (names list : List (List ℕ)) → PairError → Type 0
-IsPairError image unit names list (Refused kind named) = (name : List ℕ) × IsNamed names list named name × IsPairFault image unit list kind name
-IsPairError image unit names list (Code fault index) = (name : List ℕ) × (slice_get list index ≡ Some name) × IsCodeFault image unit list fault.kind name fault.address
-IsPairError image unit names list Nodes = IsTooLarge image unit list
+abbrev pub IsPairError : Image → Typed → (names list : List (List ℕ)) → Refusal PairFault → Type 0
+IsPairError image unit names list (Fault (Refused kind named)) = (name : List ℕ) × IsNamed names list named name × IsPairFault image unit list kind name
+IsPairError image unit names list (Fault (Code fault index)) = (name : List ℕ) × (slice_get list index ≡ Some name) × IsCodeFault image unit list fault.kind name fault.address
+IsPairError image unit names list (Fault Nodes) = IsTooLarge image unit list
 IsPairError image unit names list NoMemory = Unit {0}
 
 -- ---- on the way
 
 -- the first fault of names
-abbrev pub IsFirstNameError : Image → Typed → (names list : List (List ℕ)) → PairError → Type 0
-IsFirstNameError image unit names list (Refused kind named) = (name : List ℕ) × IsNamed names list named name × IsFirstNameFault image unit list kind name
-IsFirstNameError image unit names list (Code fault index) = ⊥
-IsFirstNameError image unit names list Nodes = ⊥
+abbrev pub IsFirstNameError : Image → Typed → (names list : List (List ℕ)) → Refusal PairFault → Type 0
+IsFirstNameError image unit names list (Fault (Refused kind named)) = (name : List ℕ) × IsNamed names list named name × IsFirstNameFault image unit list kind name
+IsFirstNameError image unit names list (Fault (Code fault index)) = ⊥
+IsFirstNameError image unit names list (Fault Nodes) = ⊥
 IsFirstNameError image unit names list NoMemory = Unit {0}
 
 -- no listed function has a fault; these are the numbers and the entries of all that they reach
@@ -65,8 +67,8 @@ pub record AreSmall (image : Image) (unit : Typed) (names : List (List ℕ)) (nu
   pub source : AnyLargeSource unit names numbers → ⊥
 
 -- one is too large; out of memory may come at any time
-abbrev pub IsLargeError : Image → Typed → (names : List (List ℕ)) → (numbers entries : List ℕ) → PairError → Type 0
-IsLargeError image unit names numbers entries (Refused kind named) = ⊥
-IsLargeError image unit names numbers entries (Code fault index) = ⊥
-IsLargeError image unit names numbers entries Nodes = AnyLargeCode image entries ⊎ AnyLargeSource unit names numbers
+abbrev pub IsLargeError : Image → Typed → (names : List (List ℕ)) → (numbers entries : List ℕ) → Refusal PairFault → Type 0
+IsLargeError image unit names numbers entries (Fault (Refused kind named)) = ⊥
+IsLargeError image unit names numbers entries (Fault (Code fault index)) = ⊥
+IsLargeError image unit names numbers entries (Fault Nodes) = AnyLargeCode image entries ⊎ AnyLargeSource unit names numbers
 IsLargeError image unit names numbers entries NoMemory = Unit {0}

@@ -6,8 +6,10 @@ use Rattle.code_reach_spec.specs.Code.{Reaches}
 use Rattle.code_reach_spec.specs.Faults.{IsReachFault, ReachesNoFault, IsFirst}
 use Rattle.pair_setup_spec.specs.Code.{HasCodeFault, HasSoundCode, IsFirstCodeFault}
 use Rattle.pair_setup_spec.specs.Outcome.{IsReached}
-use Rattle.pair_setup.specs.declared.outcome.PairError.{PairError}
-use Rattle.pair_setup.specs.declared.outcome.PairError.TheVariants.{Refused, Code, Nodes, NoMemory}
+use Rattle.attempt.specs.declared.refusal.Refusal.{Refusal}
+use Rattle.attempt.specs.declared.refusal.Refusal.TheVariants.{Fault, NoMemory}
+use Rattle.pair_setup.specs.declared.outcome.PairFault.{PairFault}
+use Rattle.pair_setup.specs.declared.outcome.PairFault.TheVariants.{Refused, Code, Nodes}
 
 -- ---- entries that were looked at
 
@@ -48,22 +50,22 @@ AreCoded image list firsts entries = AreCodedOf image list list firsts entries
 -- ---- faults
 
 -- the first fault of what is reached from the entry, which is that of the function at an index of the list
-abbrev pub IsReachErrorAt : Image → (entry index : ℕ) → PairError → Type 0
-IsReachErrorAt image entry index (Code fault at) = (at ≡ index) × IsFirst (IsReachFault image entry) fault.kind fault.address
-IsReachErrorAt image entry index (Refused kind named) = ⊥
-IsReachErrorAt image entry index Nodes = ⊥
+abbrev pub IsReachErrorAt : Image → (entry index : ℕ) → Refusal PairFault → Type 0
+IsReachErrorAt image entry index (Fault (Code fault at)) = (at ≡ index) × IsFirst (IsReachFault image entry) fault.kind fault.address
+IsReachErrorAt image entry index (Fault (Refused kind named)) = ⊥
+IsReachErrorAt image entry index (Fault Nodes) = ⊥
 IsReachErrorAt image entry index NoMemory = Unit {0}
 
 -- the code of the function at an index of the list has this fault; out of memory may come at any time
-abbrev pub IsCodeErrorAt : Image → (name : List ℕ) → (index : ℕ) → PairError → Type 0
-IsCodeErrorAt image name index (Code fault at) = (at ≡ index) × HasCodeFault image name fault.kind fault.address
-IsCodeErrorAt image name index (Refused kind named) = ⊥
-IsCodeErrorAt image name index Nodes = ⊥
+abbrev pub IsCodeErrorAt : Image → (name : List ℕ) → (index : ℕ) → Refusal PairFault → Type 0
+IsCodeErrorAt image name index (Fault (Code fault at)) = (at ≡ index) × HasCodeFault image name fault.kind fault.address
+IsCodeErrorAt image name index (Fault (Refused kind named)) = ⊥
+IsCodeErrorAt image name index (Fault Nodes) = ⊥
 IsCodeErrorAt image name index NoMemory = Unit {0}
 
 -- it is that of the first listed function with one
-abbrev pub IsFirstCodeError : Image → (list : List (List ℕ)) → PairError → Type 0
-IsFirstCodeError image list (Code fault index) = (name : List ℕ) × (slice_get list index ≡ Some name) × IsFirstCodeFault image list fault.kind name fault.address
-IsFirstCodeError image list (Refused kind named) = ⊥
-IsFirstCodeError image list Nodes = ⊥
+abbrev pub IsFirstCodeError : Image → (list : List (List ℕ)) → Refusal PairFault → Type 0
+IsFirstCodeError image list (Fault (Code fault index)) = (name : List ℕ) × (slice_get list index ≡ Some name) × IsFirstCodeFault image list fault.kind name fault.address
+IsFirstCodeError image list (Fault (Refused kind named)) = ⊥
+IsFirstCodeError image list (Fault Nodes) = ⊥
 IsFirstCodeError image list NoMemory = Unit {0}

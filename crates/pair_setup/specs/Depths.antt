@@ -10,8 +10,10 @@ use Rattle.pair_setup.specs.declared.reach.Depth.{Depth}
 use Rattle.pair_setup.specs.declared.reach.Depth.TheVariants.{Stack, Fault}
 use Rattle.pair_setup.specs.declared.outcome.Function.{Function}
 use Rattle.pair_setup.specs.declared.outcome.Named.TheVariants.{Nothing, Listed, Declared}
-use Rattle.pair_setup.specs.declared.outcome.PairError.{PairError}
-use Rattle.pair_setup.specs.declared.outcome.PairError.TheVariants.{Refused, Code, Nodes, NoMemory}
+use Rattle.attempt.specs.declared.refusal.Refusal.{Refusal}
+use Rattle.attempt.specs.declared.refusal.Refusal.TheVariants as refusal
+use Rattle.pair_setup.specs.declared.outcome.PairFault.{PairFault}
+use Rattle.pair_setup.specs.declared.outcome.PairFault.TheVariants.{Refused, Code, Nodes}
 use Rattle.pair_setup_spec.specs.Outcome as spec
 
 -- neither side reaches a cycle, and this is the stack, within the limit
@@ -42,19 +44,19 @@ pub record AreFunctions (image : Image) (unit : Typed) (list : List (List ℕ)) 
 -- ---- faults
 
 -- the function of an index of the list has this fault; out of memory may come at any time
-abbrev pub IsDepthErrorAt : Image → Typed → (name : List ℕ) → (entry index : ℕ) → PairError → Type 0
-IsDepthErrorAt image unit name entry index (Refused kind (Listed i)) = (i ≡ index) × HasReachFault image unit name entry kind
-IsDepthErrorAt image unit name entry index (Refused kind Nothing) = ⊥
-IsDepthErrorAt image unit name entry index (Refused kind (Declared number)) = ⊥
-IsDepthErrorAt image unit name entry index (Code fault at) = ⊥
-IsDepthErrorAt image unit name entry index Nodes = ⊥
-IsDepthErrorAt image unit name entry index NoMemory = Unit {0}
+abbrev pub IsDepthErrorAt : Image → Typed → (name : List ℕ) → (entry index : ℕ) → Refusal PairFault → Type 0
+IsDepthErrorAt image unit name entry index (refusal.Fault (Refused kind (Listed i))) = (i ≡ index) × HasReachFault image unit name entry kind
+IsDepthErrorAt image unit name entry index (refusal.Fault (Refused kind Nothing)) = ⊥
+IsDepthErrorAt image unit name entry index (refusal.Fault (Refused kind (Declared number))) = ⊥
+IsDepthErrorAt image unit name entry index (refusal.Fault (Code fault at)) = ⊥
+IsDepthErrorAt image unit name entry index (refusal.Fault Nodes) = ⊥
+IsDepthErrorAt image unit name entry index refusal.NoMemory = Unit {0}
 
 -- it is that of the first listed function with one
-abbrev pub IsFirstDepthError : Image → Typed → (list : List (List ℕ)) → PairError → Type 0
-IsFirstDepthError image unit list (Refused kind (Listed index)) = (name : List ℕ) × (slice_get list index ≡ Some name) × IsFirstReachFault image unit list kind name
-IsFirstDepthError image unit list (Refused kind Nothing) = ⊥
-IsFirstDepthError image unit list (Refused kind (Declared number)) = ⊥
-IsFirstDepthError image unit list (Code fault at) = ⊥
-IsFirstDepthError image unit list Nodes = ⊥
-IsFirstDepthError image unit list NoMemory = Unit {0}
+abbrev pub IsFirstDepthError : Image → Typed → (list : List (List ℕ)) → Refusal PairFault → Type 0
+IsFirstDepthError image unit list (refusal.Fault (Refused kind (Listed index))) = (name : List ℕ) × (slice_get list index ≡ Some name) × IsFirstReachFault image unit list kind name
+IsFirstDepthError image unit list (refusal.Fault (Refused kind Nothing)) = ⊥
+IsFirstDepthError image unit list (refusal.Fault (Refused kind (Declared number))) = ⊥
+IsFirstDepthError image unit list (refusal.Fault (Code fault at)) = ⊥
+IsFirstDepthError image unit list (refusal.Fault Nodes) = ⊥
+IsFirstDepthError image unit list refusal.NoMemory = Unit {0}

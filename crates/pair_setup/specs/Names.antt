@@ -10,8 +10,10 @@ use Rattle.pair_setup_spec.specs.declared.PairKind.TheVariants.{NoSource, NoSymb
 use Rattle.pair_setup_spec.specs.Faults.{HasNames, HasNameFault}
 use Rattle.pair_setup.specs.declared.outcome.Named.{Named}
 use Rattle.pair_setup.specs.declared.outcome.Named.TheVariants.{Nothing, Listed, Declared}
-use Rattle.pair_setup.specs.declared.outcome.PairError.{PairError}
-use Rattle.pair_setup.specs.declared.outcome.PairError.TheVariants.{Refused, Code, Nodes, NoMemory}
+use Rattle.attempt.specs.declared.refusal.Refusal.{Refusal}
+use Rattle.attempt.specs.declared.refusal.Refusal.TheVariants.{Fault, NoMemory}
+use Rattle.pair_setup.specs.declared.outcome.PairFault.{PairFault}
+use Rattle.pair_setup.specs.declared.outcome.PairFault.TheVariants.{Refused, Code, Nodes}
 
 -- ---- numbers
 
@@ -66,10 +68,10 @@ IsLeast P (Some least) = P least × ((n : ℕ) → P n → least ≤ n)
 
 -- what is answered of the names of a function, from the least number without a body, whether its symbol is absent, and the
 -- least number of a global that isn't placed
-abbrev pub refusal_of : (lacking : Option ℕ) → (absent : Bool) → (global : Option ℕ) → (index : ℕ) → Result Unit PairError
-refusal_of (Some number) absent global index = Err (Refused NoSource (Declared number))
-refusal_of None true global index = Err (Refused NoSymbol (Listed index))
-refusal_of None false (Some number) index = Err (Refused ObjectSize (Declared number))
+abbrev pub refusal_of : (lacking : Option ℕ) → (absent : Bool) → (global : Option ℕ) → (index : ℕ) → Result Unit (Refusal PairFault)
+refusal_of (Some number) absent global index = Err (Fault (Refused NoSource (Declared number)))
+refusal_of None true global index = Err (Fault (Refused NoSymbol (Listed index)))
+refusal_of None false (Some number) index = Err (Fault (Refused ObjectSize (Declared number)))
 refusal_of None false None index = Ok tt
 
 -- ---- numbers that were looked at
@@ -122,8 +124,8 @@ IsNameAt names listed index (Listed i) name = (i ≡ index) × (name ≡ listed)
 IsNameAt names listed index (Declared number) name = IsNumber names number name
 
 -- the names of the function at an index of the list have this fault; out of memory may come at any time
-abbrev pub IsNameError : Image → Typed → (names : List (List ℕ)) → (listed : List ℕ) → (index : ℕ) → PairError → Type 0
-IsNameError image unit names listed index (Refused kind named) = (name : List ℕ) × IsNameAt names listed index named name × HasNameFault image unit listed kind name
-IsNameError image unit names listed index (Code fault at) = ⊥
-IsNameError image unit names listed index Nodes = ⊥
+abbrev pub IsNameError : Image → Typed → (names : List (List ℕ)) → (listed : List ℕ) → (index : ℕ) → Refusal PairFault → Type 0
+IsNameError image unit names listed index (Fault (Refused kind named)) = (name : List ℕ) × IsNameAt names listed index named name × HasNameFault image unit listed kind name
+IsNameError image unit names listed index (Fault (Code fault at)) = ⊥
+IsNameError image unit names listed index (Fault Nodes) = ⊥
 IsNameError image unit names listed index NoMemory = Unit {0}

@@ -6,8 +6,8 @@ ghost use Rattle.elf_read_spec.specs.Image.{size_at};
 ghost use Rattle.code_reach.specs.Found.{IsCode};
 ghost use Rattle.pair_setup.specs.Calling as spec;
 
-use attempt::attempt;
-use code_reach::{CodeError, callee_at, code, lowering};
+use attempt::{Refusal, attempt};
+use code_reach::{callee_at, code, lowering};
 use elf_read::Image;
 use rv_decode::decode;
 use std::alloc::{AllocError, Global};
@@ -79,8 +79,8 @@ fn sound_steps(
             let found = attempt!(steps(alloc, image, entry, size, words.as_slice()));
             Ok(Some(found))
         }
-        Err(CodeError::Fault(_)) => Ok(None),
-        Err(CodeError::NoMemory) => Err(AllocError),
+        Err(Refusal::Fault(_)) => Ok(None),
+        Err(Refusal::NoMemory) => Err(AllocError),
     }
 }
 

@@ -11,10 +11,10 @@ ghost use Rattle.pair_setup.specs.Codes.{AddsNamed, AddsSound, AreCoded, AreSoun
 ghost use Rattle.pair_setup.specs.Codes.{IsCodeErrorAt, IsFirstCodeError, IsReachErrorAt};
 ghost use Rattle.pair_setup.specs.Walks.{AreSoundOf};
 
-use crate::outcome::PairError;
+use crate::outcome::PairFault;
 use crate::walk::add_sound;
-use attempt::attempt;
-use code_reach::{CodeError, CodeFault, reach};
+use attempt::{Refusal, attempt};
+use code_reach::{CodeFault, reach};
 use code_reach_spec::CodeKind;
 use elf_read::{Image, SymbolValues};
 use indexmap::IndexSet;
@@ -51,14 +51,14 @@ fn add_new(
     entries: &mut IndexSet<u32>,
     image: &Image<'_>,
     entry: u32,
-) -> Result<(), CodeError>
+) -> Result<(), Refusal<CodeFault>>
     requires sized { IsSome (size_at image.now entry) }
     requires sound { AreSound image.now entries.old.keys }
     ensures added { OnOk result (AddsSound image.now entry entries.old.keys entries.new.keys) }
     ensures fault { IfErr result (IsReachError image.now entry) }
 {
     let reached = attempt!(reach(alloc, image, entry));
-    attempt!(add_all(entries, reached.as_slice()), CodeError::NoMemory);
+    attempt!(add_all(entries, reached.as_slice()), Refusal::NoMemory);
     Ok(())
 }
 
@@ -69,7 +69,7 @@ fn add_reached(
     entries: &mut IndexSet<u32>,
     image: &Image<'_>,
     entry: u32,
-) -> Result<(), CodeError>
+) -> Result<(), Refusal<CodeFault>>
     requires sized { IsSome (size_at image.now entry) }
     requires sound { AreSound image.now entries.old.keys }
     ensures added { OnOk result (AddsSound image.now entry entries.old.keys entries.new.keys) }
@@ -90,7 +90,7 @@ fn add_at(
     image: &Image<'_>,
     entry: u32,
     index: usize,
-) -> Result<u32, PairError>
+) -> Result<u32, Refusal<PairFault>>
     requires sized { IsSome (size_at image.now entry) }
     requires sound { AreSound image.now entries.old.keys }
     ensures entry { IfOk result (λ found. found ≡ entry) }
@@ -99,8 +99,8 @@ fn add_at(
 {
     match add_reached(alloc, entries, image, entry) {
         Ok(()) => Ok(entry),
-        Err(CodeError::Fault(fault)) => Err(PairError::Code(fault, index)),
-        Err(CodeError::NoMemory) => Err(PairError::NoMemory),
+        Err(Refusal::Fault(fault)) => Err(Refusal::Fault(PairFault::Code(fault, index))),
+        Err(Refusal::NoMemory) => Err(Refusal::NoMemory),
     }
 }
 
@@ -111,7 +111,7 @@ fn add_named(
     image: &Image<'_>,
     name: &[u8],
     index: usize,
-) -> Result<u32, PairError>
+) -> Result<u32, Refusal<PairFault>>
     requires symbol { function_named image.now name.now ≢ Absent }
     requires sound { AreSound image.now entries.old.keys }
     ensures added { IfOk result (AddsNamed image.now name.now entries.old.keys entries.new.keys) }
@@ -119,13 +119,13 @@ fn add_named(
 {
     match image.function(name) {
         SymbolValues::One(entry) => add_at(alloc, entries, image, entry, index),
-        SymbolValues::Two(_, address) => Err(PairError::Code(
+        SymbolValues::Two(_, address) => Err(Refusal::Fault(PairFault::Code(
             CodeFault {
                 kind: CodeKind::Ambiguous,
                 address,
             },
             index,
-        )),
+        ))),
         SymbolValues::Absent => unreachable!(),
     }
 }
@@ -139,7 +139,7 @@ fn add_listed(
     entries: &mut IndexSet<u32>,
     image: &Image<'_>,
     list: &[&[u8]],
-) -> Result<(), PairError>
+) -> Result<(), Refusal<PairFault>>
     requires symbols { All (λ name. function_named image.now name ≢ Absent) (texts_of list.now) }
     requires no_firsts { firsts.old.items ≡ [] }
     requires sound { AreSoundOf image.now (texts_of list.now) entries.old.keys }
@@ -149,7 +149,7 @@ fn add_listed(
 {
     for i in 0..list.len() {
         let entry = attempt!(add_named(alloc, entries, image, list[i], i));
-        attempt!(firsts.push(entry), PairError::NoMemory);
+        attempt!(firsts.push(entry), Refusal::NoMemory);
     }
     Ok(())
 }
@@ -161,14 +161,14 @@ pub(crate) fn sound_entries(
     entries: &mut IndexSet<u32>,
     image: &Image<'_>,
     list: &[&[u8]],
-) -> Result<Vec<u32>, PairError>
+) -> Result<Vec<u32>, Refusal<PairFault>>
     requires symbols { All (λ name. function_named image.now name ≢ Absent) (texts_of list.now) }
     requires none { entries.old.keys ≡ [] }
     ensures coded { IfOk result (λ firsts. AreCoded image.now (texts_of list.now) firsts.items
         entries.new.keys) }
     ensures fault { IfErr result (IsFirstCodeError image.now (texts_of list.now)) }
 {
-    attempt!(add_sound(alloc, entries, image, list), PairError::NoMemory);
+    attempt!(add_sound(alloc, entries, image, list), Refusal::NoMemory);
     let mut firsts = Vec::new(alloc);
     attempt!(add_listed(alloc, &mut firsts, entries, image, list));
     Ok(firsts)

@@ -15,5 +15,5 @@ mod stacks;
 mod survey;
 mod walk;
 
-pub use outcome::{Function, Named, PairError, Pairs};
+pub use outcome::{Function, Named, PairFault, Pairs};
 pub use pairing::pair;

@@ -15,9 +15,9 @@ ghost use Rattle.pair_setup.specs.Names.{IsMarked, IsNameError, IsOf, IsPassed, 
 ghost use Rattle.pair_setup.specs.Names.{LacksBodyAt, NamesMarked, NoFunction, refusal_of};
 ghost use Rattle.pair_setup.specs.Answers.{IsFirstNameError};
 
-use crate::outcome::{Named, PairError};
+use crate::outcome::{Named, PairFault};
 use crate::survey::Survey;
-use attempt::attempt;
+use attempt::{Refusal, attempt};
 use c_types::typed::Typed;
 use call_graph::extend;
 use elf_read::{Image, SymbolValues};
@@ -224,17 +224,20 @@ fn refusal(
     absent: bool,
     global: Option<usize>,
     index: usize,
-) -> Result<(), PairError>
+) -> Result<(), Refusal<PairFault>>
     ensures { result ≡ refusal_of lacking absent global index }
 {
     if let Some(number) = lacking {
-        return Err(PairError::Refused(PairKind::NoSource, Named::Declared(number)));
+        return Err(Refusal::Fault(PairFault::Refused(PairKind::NoSource, Named::Declared(number))));
     }
     if absent {
-        return Err(PairError::Refused(PairKind::NoSymbol, Named::Listed(index)));
+        return Err(Refusal::Fault(PairFault::Refused(PairKind::NoSymbol, Named::Listed(index))));
     }
     match global {
-        Some(number) => Err(PairError::Refused(PairKind::ObjectSize, Named::Declared(number))),
+        Some(number) => Err(Refusal::Fault(PairFault::Refused(
+            PairKind::ObjectSize,
+            Named::Declared(number),
+        ))),
         None => Ok(()),
     }
 }
@@ -258,7 +261,7 @@ fn check_declared(
     name: &[u8],
     index: usize,
     start: usize,
-) -> Result<(), PairError>
+) -> Result<(), Refusal<PairFault>>
     requires typed { IsTypedUnit (typed_of unit.now) }
     requires survey { IsSurvey image.now (typed_of unit.now) (names_of unit.now) survey.now }
     requires fine { AreFine (typed_of unit.now) (names_of unit.now)
@@ -273,15 +276,12 @@ fn check_declared(
     let before = seen.len();
     attempt!(
         extend(seen, survey.graph.as_slice(), start),
-        PairError::NoMemory
+        Refusal::NoMemory
     );
     let numbers = added(seen, before);
-    let lacking = attempt!(first_lacking(alloc, unit, numbers), PairError::NoMemory);
+    let lacking = attempt!(first_lacking(alloc, unit, numbers), Refusal::NoMemory);
     let marks = survey.misplaced.as_slice();
-    let global = attempt!(
-        first_marked(alloc, unit, marks, numbers),
-        PairError::NoMemory
-    );
+    let global = attempt!(first_marked(alloc, unit, marks, numbers), Refusal::NoMemory);
     refusal(lacking, is_absent(image, name), global, index)
 }
 
@@ -294,7 +294,7 @@ fn check_name(
     seen: &mut IndexSet<usize>,
     name: &[u8],
     index: usize,
-) -> Result<(), PairError>
+) -> Result<(), Refusal<PairFault>>
     requires typed { IsTypedUnit (typed_of unit.now) }
     requires survey { IsSurvey image.now (typed_of unit.now) (names_of unit.now) survey.now }
     requires fine { AreFine (typed_of unit.now) (names_of unit.now)
@@ -307,7 +307,7 @@ fn check_name(
 {
     match function_number(unit, name) {
         Some(start) => { check_declared(alloc, image, unit, survey, seen, name, index, start) }
-        None => Err(PairError::Refused(PairKind::NoSource, Named::Listed(index))),
+        None => Err(Refusal::Fault(PairFault::Refused(PairKind::NoSource, Named::Listed(index)))),
     }
 }
 
@@ -320,7 +320,7 @@ pub(crate) fn check_names(
     survey: &Survey,
     seen: &mut IndexSet<usize>,
     list: &[&[u8]],
-) -> Result<(), PairError>
+) -> Result<(), Refusal<PairFault>>
     requires typed { IsTypedUnit (typed_of unit.now) }
     requires survey { IsSurvey image.now (typed_of unit.now) (names_of unit.now) survey.now }
     requires none { seen.old.keys ≡ [] }

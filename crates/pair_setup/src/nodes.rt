@@ -9,10 +9,10 @@ ghost use Rattle.pair_setup_calls.specs.Names.{names_of};
 ghost use Rattle.pair_setup_spec.specs.Nodes.{IsLargeCode};
 ghost use Rattle.pair_setup.specs.Sizes.{AnyLargeCode, AnyLargeSource, IsLargeAt};
 
-use attempt::attempt;
+use attempt::{Refusal, attempt};
 use c_graph_layout::size;
 use c_types::typed::Typed;
-use decompile::{GraphError, decompile_within};
+use decompile::{GraphFault, decompile_within};
 use decompile_laws::validity::code_graphs_have_one_size;
 use elf_read::Image;
 use pair_setup_calls::body_at;
@@ -26,7 +26,7 @@ fn check_code(
     image: &Image<'_>,
     entry: u32,
     entries: &[u32],
-) -> Result<(), GraphError>
+) -> Result<(), Refusal<GraphFault>>
     requires sized { IsSome (size_at image.now entry) }
     requires rising { IsStrictlyIncreasing entries.now }
     ensures small { OnOk result (IsLargeCode image.now entry → ⊥) }
@@ -52,7 +52,7 @@ fn is_large_code(
 {
     match check_code(alloc, image, entry, entries) {
         Ok(()) => Ok(false),
-        Err(GraphError::Large(_)) => Ok(true),
+        Err(Refusal::Fault(GraphFault::Large(_))) => Ok(true),
         Err(_) => Err(AllocError),
     }
 }

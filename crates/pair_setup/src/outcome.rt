@@ -36,13 +36,11 @@ pub enum Named {
 
 /// Why a list has no pairs.
 #[derive(Clone, Copy)]
-pub enum PairError {
+pub enum PairFault {
     /// A function can't be paired, and the name of which that speaks.
     Refused(PairKind, Named),
     /// The code of the function at an index of the list has a fault; this is the first.
     Code(CodeFault, usize),
     /// A graph has more than [`tv_limits::MAX_NODES`] nodes.
     Nodes,
-    /// There was no memory.
-    NoMemory,
 }

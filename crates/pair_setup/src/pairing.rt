@@ -13,10 +13,10 @@ ghost use Rattle.pair_setup.specs.Answers.{pairs_of};
 use crate::code::sound_entries;
 use crate::names::check_names;
 use crate::nodes::is_too_large;
-use crate::outcome::{Function, Named, PairError, Pairs};
+use crate::outcome::{Function, Named, PairFault, Pairs};
 use crate::reach::functions;
 use crate::survey::{Survey, surveyed};
-use attempt::attempt;
+use attempt::{Refusal, attempt};
 use c_types::typed::Typed;
 use elf_read::Image;
 use indexmap::IndexSet;
@@ -33,7 +33,7 @@ fn checked(
     seen: &mut IndexSet<usize>,
     entries: &mut IndexSet<u32>,
     list: &[&[u8]],
-) -> Result<Vec<Function>, PairError>
+) -> Result<Vec<Function>, Refusal<PairFault>>
     requires typed { IsTypedUnit (typed_of unit.now) }
     requires survey { IsSurvey image.now (typed_of unit.now) (names_of unit.now) survey.now }
     requires unseen { seen.old.keys ≡ [] }
@@ -55,24 +55,24 @@ fn small_entries(
     unit: &Typed<'_>,
     numbers: &[usize],
     entries: &mut IndexSet<u32>,
-) -> Result<Vec<u32>, PairError>
+) -> Result<Vec<u32>, Refusal<PairFault>>
     requires { All (λ entry. IsSome (size_at image.now entry)) entries.old.keys }
     ensures small { IfOk result (λ found. AreSmall image.now (typed_of unit.now) (names_of unit.now)
         numbers.now entries.old.keys found.items) }
     ensures error { IfErr result (IsLargeError image.now (typed_of unit.now) (names_of unit.now)
         numbers.now entries.old.keys) }
 {
-    attempt!(entries.sort(), PairError::NoMemory);
+    attempt!(entries.sort(), Refusal::NoMemory);
     let large = attempt!(
         is_too_large(alloc, image, unit, numbers, entries.as_slice()),
-        PairError::NoMemory
+        Refusal::NoMemory
     );
     if large {
-        return Err(PairError::Nodes);
+        return Err(Refusal::Fault(PairFault::Nodes));
     }
     let found = attempt!(
         Vec::from_slice(alloc, entries.as_slice()),
-        PairError::NoMemory
+        Refusal::NoMemory
     );
     Ok(found)
 }
@@ -84,7 +84,7 @@ fn listed_pairs(
     unit: &Typed<'_>,
     survey: &Survey,
     list: &[&[u8]],
-) -> Result<Pairs, PairError>
+) -> Result<Pairs, Refusal<PairFault>>
     requires typed { IsTypedUnit (typed_of unit.now) }
     requires survey { IsSurvey image.now (typed_of unit.now) (names_of unit.now) survey.now }
     requires some { texts_of list.now ≢ [] }
@@ -110,7 +110,7 @@ pub fn pair(
     image: &Image<'_>,
     unit: &Typed<'_>,
     list: &[&[u8]],
-) -> Result<Pairs, PairError>
+) -> Result<Pairs, Refusal<PairFault>>
     requires { IsTypedUnit (typed_of unit.now) }
     ensures pairs { IfOk result (λ pairs. IsPaired image.now (typed_of unit.now) (texts_of list.now)
         (pairs_of (texts_of list.now) pairs)) }
@@ -118,8 +118,8 @@ pub fn pair(
         (texts_of list.now)) }
 {
     if list.is_empty() {
-        return Err(PairError::Refused(PairKind::NothingListed, Named::Nothing));
+        return Err(Refusal::Fault(PairFault::Refused(PairKind::NothingListed, Named::Nothing)));
     }
-    let survey = attempt!(surveyed(alloc, image, unit), PairError::NoMemory);
+    let survey = attempt!(surveyed(alloc, image, unit), Refusal::NoMemory);
     listed_pairs(alloc, image, unit, &survey, list)
 }

@@ -21,10 +21,10 @@ ghost use Rattle.pair_setup.specs.Depths.{IsFirstDepthError, IsSoundFunction};
 ghost use Rattle.pair_setup.specs.Stacks.{AreStacks};
 
 use crate::names::function_number;
-use crate::outcome::{Function, Named, PairError};
+use crate::outcome::{Function, Named, PairFault};
 use crate::stacks::add_stacks;
 use crate::survey::Survey;
-use attempt::attempt;
+use attempt::{Refusal, attempt};
 use c_types::typed::Typed;
 use call_graph::is_cyclic;
 use code_reach::stack;
@@ -153,7 +153,7 @@ fn listed_function(
     name: &[u8],
     entry: u32,
     index: usize,
-) -> Result<Function, PairError>
+) -> Result<Function, Refusal<PairFault>>
     requires typed { IsTypedUnit (typed_of unit.now) }
     requires survey { IsSurvey image.now (typed_of unit.now) (names_of unit.now) survey.now }
     requires stacks { AreStacks image.now (get nat_eq known.now) }
@@ -167,10 +167,10 @@ fn listed_function(
     let size = image.size_at(entry).unwrap_or(0);
     match attempt!(
         depth_of(alloc, image, unit, survey, known, start, entry),
-        PairError::NoMemory
+        Refusal::NoMemory
     ) {
         Depth::Stack(stack) => Ok(Function { entry, size, stack }),
-        Depth::Fault(kind) => Err(PairError::Refused(kind, Named::Listed(index))),
+        Depth::Fault(kind) => Err(Refusal::Fault(PairFault::Refused(kind, Named::Listed(index)))),
     }
 }
 
@@ -185,7 +185,7 @@ fn add_functions(
     known: &IndexMap<u32, u64>,
     list: &[&[u8]],
     firsts: &[u32],
-) -> Result<(), PairError>
+) -> Result<(), Refusal<PairFault>>
     requires typed { IsTypedUnit (typed_of unit.now) }
     requires survey { IsSurvey image.now (typed_of unit.now) (names_of unit.now) survey.now }
     requires stacks { AreStacks image.now (get nat_eq known.now) }
@@ -203,7 +203,7 @@ fn add_functions(
         let found = attempt!(listed_function(
             alloc, image, unit, survey, known, list[i], firsts[i], i
         ));
-        attempt!(functions.push(found), PairError::NoMemory);
+        attempt!(functions.push(found), Refusal::NoMemory);
     }
     Ok(())
 }
@@ -216,7 +216,7 @@ pub(crate) fn functions(
     survey: &Survey,
     list: &[&[u8]],
     firsts: &[u32],
-) -> Result<Vec<Function>, PairError>
+) -> Result<Vec<Function>, Refusal<PairFault>>
     requires typed { IsTypedUnit (typed_of unit.now) }
     requires survey { IsSurvey image.now (typed_of unit.now) (names_of unit.now) survey.now }
     requires names { All (HasNames image.now (typed_of unit.now)) (texts_of list.now) }
@@ -231,7 +231,7 @@ pub(crate) fn functions(
     let mut known = IndexMap::new(alloc);
     attempt!(
         add_stacks(alloc, &mut known, image, firsts),
-        PairError::NoMemory
+        Refusal::NoMemory
     );
     let mut functions = Vec::new(alloc);
     attempt!(add_functions(

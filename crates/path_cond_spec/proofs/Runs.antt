@@ -10,7 +10,7 @@ use Rattle.graph_core_spec.specs.declared.Next.{Next}
 use Rattle.graph_core_spec.specs.declared.Next.TheVariants as next
 use Rattle.graph_core_spec.specs.Graph.{Node, Basic, Cond, Call, IsNode, IsNext, Graph, Graphs, IsValid, node_at}
 use Rattle.graph_core_spec.specs.Run.{State, Running, Returned, Failed, go, act, step, bound, is_truth, is_at, system_of}
-use Rattle.visit_walk_spec.specs.declared.Mark.{Mark}
+use Rattle.graph_core_spec.specs.declared.Mark.{Mark}
 use Rattle.visit_walk_spec.specs.declared.Branch.{Branch}
 use Rattle.visit_walk_spec.specs.declared.Branch.TheVariants.{Only, IfTrue, IfFalse}
 use Rattle.visit_walk_spec.specs.declared.Successors.{Successors}

@@ -10,7 +10,7 @@ use Rattle.graph_core_spec.specs.declared.Next.{Next}
 use Rattle.graph_core_spec.specs.declared.Next.TheVariants as next
 use Rattle.graph_core_spec.specs.Graph.{Graph, Graphs, node_at}
 use Rattle.graph_core_spec.specs.Run.{State, Running, has_returned, has_failed, is_at, system_of}
-use Rattle.visit_walk_spec.specs.declared.Mark.{Mark}
+use Rattle.graph_core_spec.specs.declared.Mark.{Mark}
 use Rattle.visit_walk_spec.specs.Visits.{Walk, Visit, marks, edges, edges_at, edges_of, is_full, is_last, is_stop, is_marked_end}
 use Rattle.path_cond_spec.specs.Runs.{state_at, Visits, IsWalkOver, mark_of, is_return, is_failure, AreCounted, EndsAs}
 use Rattle.path_cond_spec.proofs.Edges.{contains_head, contains_tail, contains_any}

@@ -8,7 +8,7 @@ use Rattle.graph_core_spec.specs.declared.Next.{Next}
 use Rattle.graph_core_spec.specs.declared.Next.TheVariants as next
 use Rattle.graph_core_spec.specs.Graph.{Graph, Graphs, IsValid}
 use Rattle.graph_core_spec.specs.Run.{State, Running, Returned, Failed, system_of}
-use Rattle.visit_walk_spec.specs.declared.Mark.{Mark}
+use Rattle.graph_core_spec.specs.declared.Mark.{Mark}
 use Rattle.visit_walk_spec.specs.declared.Successors.TheVariants.{Nothing}
 use Rattle.visit_walk_spec.specs.Shape.{Shape, shape_of, successors_at}
 use Rattle.visit_walk_spec.specs.Visits.{Walk, Visit, marks, edges, is_stop, is_last}
@@ -93,7 +93,7 @@ pub record IsOneOf (a : Assignment) (at : ℕ → Conditional) (members : List �
 
 -- ---- stops, failures and bounds of a run
 
-abbrev pub mark_of : Mark → walk.Mark
+abbrev pub mark_of : Mark → Mark
 mark_of m = record { node = m.node; count = m.count }
 
 abbrev pub is_return : Next → Bool

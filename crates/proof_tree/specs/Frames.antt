@@ -4,9 +4,8 @@ use Rattle.std.specs.Global.{Global}
 use Rattle.term_core_spec.specs.Term as tree
 use Rattle.term_core.specs.declared.term.Term.{Term}
 use Rattle.term_core.specs.Trees.{term_of}
-use Rattle.graph_core_spec.specs.TransitionSystem as walk
 use Rattle.graph_core.specs.Graphs.{boxed_term, graphs_of}
-use Rattle.proof_tree_spec.specs.declared.Mark.{Mark}
+use Rattle.graph_core_spec.specs.declared.Mark.{Mark}
 use Rattle.proof_tree_spec.specs.Frames as spec
 use Rattle.proof_tree.specs.declared.frame.Start.{Start}
 use Rattle.proof_tree.specs.declared.reachable.Reachable.{Reachable}
@@ -22,10 +21,10 @@ use Rattle.proof_tree.specs.Scope.{setting_of}
 abbrev pub terms_of : List (Box Term Global) → List tree.Term
 terms_of terms = map boxed_term terms
 
-abbrev pub mark_of : Mark → walk.Mark
+abbrev pub mark_of : Mark → Mark
 mark_of m = record { node = m.node; count = m.count }
 
-abbrev pub stop_of : Stop → walk.Mark
+abbrev pub stop_of : Stop → Mark
 stop_of s = record { node = s.at.from; count = s.count }
 
 abbrev pub side_of : GraphRun → spec.Side

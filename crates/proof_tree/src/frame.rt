@@ -3,7 +3,8 @@
 use crate::reachable::Reachable;
 use crate::scope::Setting;
 use graph_core::GraphRun;
-use proof_tree_spec::{Mark, Nodes};
+use graph_core_spec::Mark;
+use proof_tree_spec::Nodes;
 use term_core::Term;
 
 /// A premise: a term, or its negation.

@@ -3,7 +3,7 @@
 
 ghost use Rattle.std.specs.Prelude.{◌≡◌, IfOk, OnErr, OnOk, map, ◌++◌};
 ghost use Rattle.term_core_spec.specs.Term as tree;
-ghost use Rattle.graph_core_spec.specs.TransitionSystem as walk;
+ghost use Rattle.graph_core_spec.specs.declared.Mark.{Mark};
 ghost use Rattle.proof_tree_spec.specs.Frames as spec;
 ghost use Rattle.proof_tree.specs.Frames.{HasPaths, KnowsPaths, frame_of, goal_of, hold_of};
 ghost use Rattle.proof_tree.specs.Frames.{mark_of, premise_of, start_of, stop_of, terms_of};
@@ -12,7 +12,8 @@ use crate::frame::{Frame, Goal, Hold, Premise, Start, Stop};
 use crate::reachable::Reachable;
 use attempt::attempt;
 use graph_core::GraphRun;
-use proof_tree_spec::{Counts, Mark, Nodes};
+use graph_core_spec::Mark;
+use proof_tree_spec::{Counts, Nodes};
 use std::alloc::{AllocError, Global};
 use term_core::Term;
 
@@ -47,7 +48,7 @@ impl<'a> Start<'a> {
 
     /// Takes back the bound of the binary side that was added last.
     pub fn remove_binary_bound(&mut self)
-        ensures { (start : spec.Start) (bound : walk.Mark)
+        ensures { (start : spec.Start) (bound : Mark)
             → start_of self.old ≡ spec.with_binary_bound start bound → start_of self.new ≡ start }
     {
         self.binary_bounds.pop();
@@ -65,7 +66,7 @@ impl<'a> Start<'a> {
 
     /// Takes back the bound of the source side that was added last.
     pub fn remove_source_bound(&mut self)
-        ensures { (start : spec.Start) (bound : walk.Mark)
+        ensures { (start : spec.Start) (bound : Mark)
             → start_of self.old ≡ spec.with_source_bound start bound → start_of self.new ≡ start }
     {
         self.source_bounds.pop();

@@ -1,7 +1,8 @@
 -- The rules of a proof that cut its runs in two: the frames of their sub-proofs, and what each rule asks. A cut is a node
 -- on each side and a relation of the states there, as a hold is.
 use Rattle.std.specs.Prelude.{◌≡◌, ◌≢◌, ◌⊎◌, ℕ, ◌<◌, ◌≤◌, ◌&&◌, Bool, true, false, [], ◌∷◌, ◌++◌, All, Contains}
-use Rattle.graph_core_spec.specs.TransitionSystem.{TransitionSystem, Mark, Always, after, stopped}
+use Rattle.graph_core_spec.specs.TransitionSystem.{TransitionSystem, Always, after, stopped}
+use Rattle.graph_core_spec.specs.declared.Mark.{Mark}
 use Rattle.proof_tree_spec.specs.declared.Counts.{Counts}
 use Rattle.graph_core_spec.specs.Simulation.{Frame, Goal, Hold, IsRelated, binary_marks, source_marks, HasCountedGoals, IsStart, Simulates}
 

@@ -3,7 +3,7 @@ use Rattle.std.specs.Prelude.{◌≢◌, ℕ, List, [], ◌∷◌, ◌++◌, map
 use Rattle.term_core_spec.specs.Term.{Term}
 use Rattle.graph_core_spec.specs.Graph.{Graphs}
 use Rattle.graph_core_spec.specs.Run.{IsPath}
-use Rattle.graph_core_spec.specs.TransitionSystem.{Mark}
+use Rattle.graph_core_spec.specs.declared.Mark.{Mark}
 use Rattle.proof_tree_spec.specs.declared.Counts.{Counts}
 use Rattle.proof_tree_spec.specs.declared.Nodes.{Nodes}
 use Rattle.proof_tree_spec.specs.declared.Cut.{Cut}

@@ -8,15 +8,6 @@
 
 #![tactic(auto)]
 
-/// A node, and a number of arrivals at it.
-#[derive(Clone, Copy)]
-pub struct Mark {
-    /// The node.
-    pub node: usize,
-    /// How many arrivals.
-    pub count: usize,
-}
-
 /// How many arrivals count on each side.
 #[derive(Clone, Copy)]
 pub struct Counts {

@@ -1,4 +1,4 @@
-mod Walked
+mod Sided
 mod Opened
 mod Searched
 mod Adding

@@ -15,8 +15,10 @@ use Rattle.sim_rules_spec.specs.Obligations as rule
 use Rattle.graph_core.specs.Graphs.{boxed_term}
 use Rattle.proof_tree_spec.specs.Frames as frames
 use Rattle.sim_rules.specs.Outcome.{IsRuleFault}
+use Rattle.attempt.specs.declared.refusal.Refusal.{Refusal}
+use Rattle.attempt.specs.declared.refusal.Refusal.TheVariants.{Fault, NoMemory}
 use Rattle.sim_rules.specs.declared.fault.RuleFault.{RuleFault}
-use Rattle.sim_rules.specs.declared.fault.RuleFault.TheVariants.{Sort, Cyclic, Large, NoMemory}
+use Rattle.sim_rules.specs.declared.fault.RuleFault.TheVariants.{Sort, Cyclic, Large}
 use Rattle.tv_limits.specs.declared.TheConstants.{MAX_VISITS}
 use Rattle.cert_check_spec.specs.Verdict as spec
 use Rattle.cert_check_frames.specs.declared.jobs.Branch.{Branch}
@@ -31,10 +33,10 @@ use Rattle.prove_run.specs.Goals.{AreOpened, IsLeafFault}
 nothing_known : rules.Opening
 nothing_known = record { binary = open_term; source = open_term; known = λ at x y. true }
 
-pub leaf_fault : (frame : frames.Frame) (fault : RuleFault) → ((o : rules.Opening) → IsRuleFault o frame MAX_VISITS rule.Leaf fault) → IsLeafFault fault
-leaf_fault frame (Sort index) is = is nothing_known
-leaf_fault frame (Cyclic node) is = tt
-leaf_fault frame (Large count) is = tt
+pub leaf_fault : (frame : frames.Frame) (fault : Refusal RuleFault) → ((o : rules.Opening) → IsRuleFault o frame MAX_VISITS rule.Leaf fault) → IsLeafFault fault
+leaf_fault frame (Fault (Sort index)) is = is nothing_known
+leaf_fault frame (Fault (Cyclic side node)) is = tt
+leaf_fault frame (Fault (Large side count)) is = tt
 leaf_fault frame NoMemory is = tt
 
 -- ---- the opening

@@ -11,8 +11,10 @@ use Rattle.sim_rules_spec.specs.Rules as rules
 use Rattle.sim_rules_spec.specs.Obligations as rule
 use Rattle.sim_rules_terms.specs.declared.points.Opening.{Opening}
 use Rattle.sim_rules.specs.Outcome.{AreObligations, HasFewVisits, IsRuleFault}
+use Rattle.attempt.specs.declared.refusal.Refusal.{Refusal}
+use Rattle.attempt.specs.declared.refusal.Refusal.TheVariants.{Fault, NoMemory}
 use Rattle.sim_rules.specs.declared.fault.RuleFault.{RuleFault}
-use Rattle.sim_rules.specs.declared.fault.RuleFault.TheVariants.{Sort, Cyclic, Large, NoMemory}
+use Rattle.sim_rules.specs.declared.fault.RuleFault.TheVariants.{Sort, Cyclic, Large}
 use Rattle.tv_limits.specs.declared.TheConstants.{MAX_VISITS}
 use Rattle.cert_check_frames.specs.declared.listed.Listed.{Listed}
 use Rattle.cert_check_frames.specs.Listed.{terms_given}
@@ -27,13 +29,13 @@ pub record HasGoals (c : Convention) (o : rules.Opening) (frame : Frame) (trees 
   pub few : HasFewVisits o frame MAX_VISITS rule.Leaf
   pub are : AreObligations trees c o frame rule.Leaf goals
 
-abbrev pub AnswersGoals : Convention → rules.Opening → Frame → List Term → Result (Vec ℕ Global) RuleFault → Type 0
+abbrev pub AnswersGoals : Convention → rules.Opening → Frame → List Term → Result (Vec ℕ Global) (Refusal RuleFault) → Type 0
 AnswersGoals c o frame trees (Ok goals) = HasGoals c o frame trees goals.items
 AnswersGoals c o frame trees (Err fault) = IsRuleFault o frame MAX_VISITS rule.Leaf fault
 
 -- a Leaf has no line
-abbrev pub IsLeafFault : RuleFault → Type 0
-IsLeafFault (Sort index) = ⊥
-IsLeafFault (Cyclic node) = Unit {0}
-IsLeafFault (Large count) = Unit {0}
+abbrev pub IsLeafFault : Refusal RuleFault → Type 0
+IsLeafFault (Fault (Sort index)) = ⊥
+IsLeafFault (Fault (Cyclic side node)) = Unit {0}
+IsLeafFault (Fault (Large side count)) = Unit {0}
 IsLeafFault NoMemory = Unit {0}

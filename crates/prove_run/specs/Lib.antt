@@ -1,4 +1,3 @@
-pub mod Walks
 pub mod Goals
 pub mod Found
 pub mod Logs

@@ -10,7 +10,7 @@ ghost use Rattle.cert_check_spec.specs.Verdict as spec;
 ghost use Rattle.cert_check_frames.specs.Listed.{IsListed};
 ghost use Rattle.prove_run.specs.Goals.{AnswersGoals, AreOpened, IsLeafFault};
 
-use attempt::attempt;
+use attempt::{Refusal, attempt};
 use cert_check_frames::{Listed, frame, known};
 use proof_tree::Frame;
 use sim_rules::{Rule, RuleFault, Setup, obligations};
@@ -26,7 +26,7 @@ fn frame_goals(
     convention: &Convention<'_>,
     opening: Opening<'_>,
     bank: &mut Bank,
-) -> Result<Vec<TermId>, RuleFault>
+) -> Result<Vec<TermId>, Refusal<RuleFault>>
     requires { IsOpeningIn (length bank.old) opening }
     ensures goals { (c : points.Convention) (o : opened.Opening) → IsConventionOf convention.now c
         → IsOpening bank.old o opening.entry
@@ -55,7 +55,7 @@ fn leaf_goals(
     function: &Listed<'_>,
     opening: Opening<'_>,
     bank: &mut Bank,
-) -> Result<Vec<TermId>, RuleFault>
+) -> Result<Vec<TermId>, Refusal<RuleFault>>
     requires { AreOpened function.now bank.old opening }
     ensures goals { (f : spec.Listed) → IsListed function.now f
         → AnswersGoals f.convention f.opening f.frame bank.new result }
@@ -66,7 +66,7 @@ fn leaf_goals(
     let tests = Vec::new(alloc);
     let frame = attempt!(
         frame(alloc, &*function, branches.as_slice(), tests.as_slice()),
-        RuleFault::NoMemory
+        Refusal::NoMemory
     );
     frame_goals(alloc, &frame, function.convention, opening, bank)
 }
@@ -77,20 +77,14 @@ pub fn leaf_obligations(
     alloc: Global,
     function: &Listed<'_>,
     bank: &mut Bank,
-) -> Result<Vec<TermId>, RuleFault>
+) -> Result<Vec<TermId>, Refusal<RuleFault>>
     ensures goals { (f : spec.Listed) → IsListed function.now f
         → AnswersGoals f.convention f.opening f.frame bank.new result }
     ensures within { IfOk result (λ goals. All (λ goal. goal < length bank.new) goals.items) }
     ensures fault { IfErr result IsLeafFault }
 {
-    let binary = attempt!(
-        known(alloc, bank, function.binary_terms),
-        RuleFault::NoMemory
-    );
-    let source = attempt!(
-        known(alloc, bank, function.source_terms),
-        RuleFault::NoMemory
-    );
+    let binary = attempt!(known(alloc, bank, function.binary_terms), Refusal::NoMemory);
+    let source = attempt!(known(alloc, bank, function.source_terms), Refusal::NoMemory);
     let opening = Opening {
         binary: &binary,
         source: &source,

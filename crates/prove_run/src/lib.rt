@@ -12,12 +12,12 @@ mod premises;
 mod search;
 mod trail;
 mod trails;
-mod walks;
 mod writing;
 
 pub use goals::leaf_obligations;
-pub use prove_run_spec::{Measure, Side};
+pub use prove_run_spec::Measure;
 pub use search::prove;
+pub use sim_rules_spec::Side;
 pub use trail::{Found, Trail};
 pub use trails::{Trails, Unproved};
 pub use tv_limits::SEARCH_LIMIT;

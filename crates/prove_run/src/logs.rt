@@ -14,8 +14,8 @@ ghost use Rattle.prove_run.specs.Logs.{IsTrailIf};
 
 use crate::premises::note_premises;
 use crate::trail::{Found, Trail};
-use attempt::attempt;
-use discharge::{Cost, SeekError, Sought, refute, seek_counting};
+use attempt::{Refusal, attempt};
+use discharge::{Cost, SeekFault, Sought, refute, seek_counting};
 use memory_spec::Run;
 use prove_run_spec::Measure;
 use sat_search_analysis::Step;
@@ -42,7 +42,7 @@ fn seek_noting<N: Notes>(
     number: usize,
     runs: &[Run],
     notes: &mut N,
-) -> Result<Sought, SeekError>
+) -> Result<Sought, Refusal<SeekFault>>
     requires { goal < length bank.old }
     ensures seeks { sort_of (tree_at bank.old goal) ≡ Some sort.Truth
         → Seeks (runs_of runs.now) (tree_at bank.old goal) SEARCH_LIMIT result }
@@ -82,11 +82,11 @@ fn add_log<N: Notes>(
             Ok(Some(Trail::Refuted(number, assignment)))
         }
         Ok(Sought::Limit(log)) => Ok(Some(Trail::Spent(number, log))),
-        Err(SeekError::Large(quantity, count)) => {
+        Err(Refusal::Fault(SeekFault::Large(quantity, count))) => {
             let measure = Measure::Obligation(number, quantity);
             Ok(Some(Trail::Large(measure, count)))
         }
-        Err(SeekError::NoMemory) => Err(AllocError),
+        Err(Refusal::NoMemory) => Err(AllocError),
     }
 }
 

@@ -9,8 +9,7 @@ ghost use Rattle.prove_run.specs.Found.{found_of};
 
 use crate::goals::leaf_obligations;
 use crate::logs::search;
-use crate::trail::Found;
-use crate::walks::why;
+use crate::trail::{Found, why};
 use attempt::attempt;
 use cert_check_frames::Listed;
 use std::alloc::{AllocError, Global};
@@ -29,7 +28,7 @@ fn find_in<N: Notes>(
 {
     match leaf_obligations(alloc, function, bank) {
         Ok(goals) => search(alloc, bank, goals.as_slice(), function.runs, notes),
-        Err(fault) => why(alloc, function, fault),
+        Err(fault) => why(fault),
     }
 }
 

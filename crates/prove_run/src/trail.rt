@@ -1,8 +1,21 @@
 //! What the search finds of a function.
 
-use prove_run_spec::{Measure, Side};
+ghost use Rattle.std.specs.Prelude.{IfOk};
+ghost use Rattle.sim_rules_spec.specs.Obligations as rule;
+ghost use Rattle.cert_check_spec.specs.Verdict as spec;
+ghost use Rattle.prove_run_spec.specs.Trails.{IsFound};
+ghost use Rattle.sim_rules.specs.Outcome.{IsRuleFault};
+ghost use Rattle.prove_run.specs.Goals.{IsLeafFault};
+ghost use Rattle.prove_run.specs.Found.{found_of};
+
+use attempt::Refusal;
+use prove_run_spec::Measure;
 use sat_search_analysis::Step;
+use sim_rules::RuleFault;
+use sim_rules_spec::Side;
+use std::alloc::AllocError;
 use term_core::Assignment;
+use tv_limits::MAX_VISITS;
 
 /// Why a function is unproved. Obligations are numbered from 0, in the order of a Leaf's.
 #[derive(Drop)]
@@ -26,4 +39,22 @@ pub enum Found {
     Proved(Vec<Vec<Step>>),
     /// Why it is unproved.
     Unproved(Trail),
+}
+
+/// The trail of a function of which a Leaf has no obligations, for this reason.
+pub(crate) fn why(refusal: Refusal<RuleFault>) -> Result<Found, AllocError>
+    requires { IsLeafFault refusal }
+    ensures { (f : spec.Listed) → IsRuleFault f.opening f.frame MAX_VISITS rule.Leaf refusal
+        → IfOk result (λ found. IsFound f (found_of found)) }
+{
+    match refusal {
+        Refusal::Fault(RuleFault::Cyclic(side, node)) => {
+            Ok(Found::Unproved(Trail::Later(side, node)))
+        }
+        Refusal::Fault(RuleFault::Large(side, count)) => {
+            Ok(Found::Unproved(Trail::Large(Measure::Visits(side), count)))
+        }
+        Refusal::Fault(RuleFault::Sort(_)) => unreachable!(),
+        Refusal::NoMemory => Err(AllocError),
+    }
 }

@@ -16,8 +16,8 @@ use Rattle.discharge_spec.specs.Closing.{IsWithin, IsSmall, IsFirstAbove}
 use Rattle.sat_search_spec.specs.Logs as logs
 use Rattle.cert_check_spec.specs.Verdict.{Listed}
 use Rattle.tv_limits.specs.declared.TheConstants.{SEARCH_LIMIT}
-use Rattle.prove_run_spec.specs.declared.Side.{Side}
-use Rattle.prove_run_spec.specs.declared.Side.TheVariants.{Binary, Source}
+use Rattle.sim_rules_spec.specs.declared.Side.{Side}
+use Rattle.sim_rules_spec.specs.declared.Side.TheVariants.{Binary, Source}
 use Rattle.prove_run_spec.specs.declared.Measure.{Measure}
 use Rattle.prove_run_spec.specs.declared.Measure.TheVariants.{Visits, Obligation}
 use Rattle.prove_run_spec.specs.Proofs.{HasLeanProof}

@@ -6,15 +6,7 @@
 #![tactic(auto)]
 
 use discharge_spec::GoalQuantity;
-
-/// A side of a function.
-#[derive(Clone, Copy)]
-pub enum Side {
-    /// the binary
-    Binary,
-    /// the source
-    Source,
-}
+use sim_rules_spec::Side;
 
 /// A quantity that has a maximum, and of what it is one.
 #[derive(Clone, Copy)]

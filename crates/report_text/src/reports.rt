@@ -12,16 +12,16 @@ use attempt::attempt;
 use c_parse_spec::{LeftOut, ParseFaultKind};
 use c_token_spec::token::TokenFaultKind;
 use c_types_spec::{LeftOut as TypeLeftOut, TypeFaultKind};
-use cert_check_spec::RuleFault;
+use cert_check_spec::RuleWord;
 use code_reach_spec::CodeKind;
 use elf_read_spec::ElfKind;
 use itoa::Buffer;
 use pair_setup_spec::PairKind;
-use report_text_spec::{Quantity, SourceKind};
+use report_text_spec::SourceKind;
 use std::alloc::{AllocError, Global};
 use tv_limits::{
-    MAX_C_BYTES, MAX_CERTIFICATE_BYTES, MAX_ELF_BYTES, MAX_FUNCTIONS, MAX_NODES, MAX_TERMS,
-    MAX_VARIABLES, MAX_VISITS,
+    MAX_C_BYTES, MAX_CALL_BYTES, MAX_CERTIFICATE_BYTES, MAX_ELF_BYTES, MAX_FUNCTIONS, MAX_NODES,
+    MAX_STEPS, MAX_TERMS, MAX_VARIABLES, MAX_VISITS, Quantity,
 };
 
 /// `limit QUANTITY MAXIMUM`
@@ -48,6 +48,9 @@ fn push_limit(out: &mut Vec<u8>, quantity: Quantity) -> Result<(), AllocError>
         Quantity::Visits => push_maximum(out, b"visits", MAX_VISITS),
         Quantity::Terms => push_maximum(out, b"terms", MAX_TERMS),
         Quantity::Variables => push_maximum(out, b"variables", MAX_VARIABLES),
+        Quantity::Call => push_maximum(out, b"call", MAX_CALL_BYTES),
+        Quantity::Steps => push_maximum(out, b"steps", MAX_STEPS),
+        Quantity::Known => push_maximum(out, b"known", MAX_CERTIFICATE_BYTES),
     }
 }
 
@@ -267,19 +270,26 @@ fn push_refused_certificate(out: &mut Vec<u8>, offset: usize) -> Result<(), Allo
 }
 
 /// The word of a rule of certificates.
-fn rule_word(rule: RuleFault) -> &'static [u8]
+fn rule_word(rule: RuleWord) -> &'static [u8]
     ensures { result.now ≡ words.rule_word rule }
 {
     match rule {
-        RuleFault::Later => b"Later",
-        RuleFault::Stranger => b"Stranger",
-        RuleFault::Stack => b"Stack",
-        RuleFault::Sort => b"Sort",
-        RuleFault::Cyclic => b"Cyclic",
-        RuleFault::Logs => b"Logs",
-        RuleFault::Step => b"Step",
-        RuleFault::Unclosed => b"Unclosed",
-        RuleFault::Missing => b"Missing",
+        RuleWord::Later => b"Later",
+        RuleWord::Stranger => b"Stranger",
+        RuleWord::Stack => b"Stack",
+        RuleWord::Inline => b"Inline",
+        RuleWord::Point => b"Point",
+        RuleWord::Count => b"Count",
+        RuleWord::Callee => b"Callee",
+        RuleWord::Sort => b"Sort",
+        RuleWord::Cyclic => b"Cyclic",
+        RuleWord::Passed => b"Passed",
+        RuleWord::Logs => b"Logs",
+        RuleWord::Same => b"Same",
+        RuleWord::Step => b"Step",
+        RuleWord::Word => b"Word",
+        RuleWord::Unclosed => b"Unclosed",
+        RuleWord::Missing => b"Missing",
     }
 }
 
@@ -288,7 +298,7 @@ fn push_not_proof(
     out: &mut Vec<u8>,
     name: &[u8],
     offset: usize,
-    rule: RuleFault,
+    rule: RuleWord,
 ) -> Result<(), AllocError>
     ensures { OnOk result (out.new.items
         ≡ out.old.items ++ texts.report_of (spec.NotProof name.now offset rule)) }

@@ -4,12 +4,13 @@ ghost use Rattle.report_text_spec.specs.Verdict.{status_of};
 ghost use Rattle.report_text.specs.Verdicts.{verdict_of};
 
 use crate::showing::Shown;
-use cert_check_spec::RuleFault;
+use cert_check_spec::RuleWord;
 use code_reach_spec::CodeKind;
 use elf_read_spec::ElfKind;
 use pair_setup_spec::PairKind;
-use report_text_spec::{Quantity, SourceKind};
+use report_text_spec::SourceKind;
 use tv_base::Bytes;
+use tv_limits::Quantity;
 
 /// The judgement on a listed function.
 #[derive(Drop)]
@@ -61,7 +62,7 @@ pub enum Verdict {
     NotProof {
         name: Bytes,
         offset: usize,
-        rule: RuleFault,
+        rule: RuleWord,
     },
     /// The certificate is a proof: each listed function is valid, in the order of the list.
     Checked(Vec<Judgement>),

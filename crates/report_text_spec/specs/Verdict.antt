@@ -1,14 +1,14 @@
 -- The verdicts of a run, and the status of each.
 use Rattle.std.specs.Prelude.{ℕ, Bool, if◌then◌else◌, List}
 use Rattle.std.specs.List.{list_all}
-use Rattle.tv_limits.specs.declared.TheConstants.{MAX_ELF_BYTES, MAX_C_BYTES, MAX_CERTIFICATE_BYTES, MAX_FUNCTIONS, MAX_NODES, MAX_VISITS, MAX_TERMS, MAX_VARIABLES}
+use Rattle.tv_limits.specs.declared.TheConstants.{MAX_ELF_BYTES, MAX_C_BYTES, MAX_CERTIFICATE_BYTES, MAX_FUNCTIONS, MAX_NODES, MAX_VISITS, MAX_TERMS, MAX_VARIABLES, MAX_CALL_BYTES, MAX_STEPS}
 use Rattle.elf_read_spec.specs.declared.ElfKind.{ElfKind}
 use Rattle.code_reach_spec.specs.declared.CodeKind.{CodeKind}
-use Rattle.report_text_spec.specs.declared.Quantity.{Quantity}
-use Rattle.report_text_spec.specs.declared.Quantity.TheVariants.{Elf, C, Functions, Nodes, Certificate, Visits, Terms, Variables}
+use Rattle.tv_limits.specs.declared.Quantity.{Quantity}
+use Rattle.tv_limits.specs.declared.Quantity.TheVariants.{Elf, C, Functions, Nodes, Certificate, Visits, Terms, Variables, Call, Steps, Known}
 use Rattle.report_text_spec.specs.declared.SourceKind.{SourceKind}
 use Rattle.pair_setup_spec.specs.declared.PairKind.{PairKind}
-use Rattle.cert_check_spec.specs.declared.RuleFault.{RuleFault}
+use Rattle.cert_check_spec.specs.declared.RuleWord.{RuleWord}
 
 -- the judgement on a listed function: whether it is valid, and how much stack it takes
 pub record Judgement : Type 0 where
@@ -45,7 +45,7 @@ pub data Verdict : Type 0 where
   -- the third file is no certificate: its longest prefix that begins one has this length
   RefusedCertificate : (offset : ℕ) → Verdict
   -- it is no proof: the line at this offset of it breaks a rule, in the part of the function of this name
-  NotProof : (name : List ℕ) → (offset : ℕ) → (rule : RuleFault) → Verdict
+  NotProof : (name : List ℕ) → (offset : ℕ) → (rule : RuleWord) → Verdict
   -- it is a proof: each listed function is judged valid, in the order of the list
   Checked : (judgements : List Judgement) → Verdict
   -- each listed function has its judgement, in the order of the list
@@ -53,8 +53,8 @@ pub data Verdict : Type 0 where
   -- a function is shown
   Showed : (shown : Shown) → Verdict
 
--- how many bytes a file may have, how many functions the list, how many nodes a graph, how many visits a walk, and how
--- many subterms and variables an obligation
+-- how many bytes a file may have, how many functions the list, how many nodes a graph, how many visits a walk, how many
+-- subterms and variables an obligation, and how many steps a run
 abbrev pub maximum_of : Quantity → ℕ
 maximum_of Elf = MAX_ELF_BYTES
 maximum_of C = MAX_C_BYTES
@@ -64,6 +64,9 @@ maximum_of Certificate = MAX_CERTIFICATE_BYTES
 maximum_of Visits = MAX_VISITS
 maximum_of Terms = MAX_TERMS
 maximum_of Variables = MAX_VARIABLES
+maximum_of Call = MAX_CALL_BYTES
+maximum_of Steps = MAX_STEPS
+maximum_of Known = MAX_CERTIFICATE_BYTES
 
 abbrev pub all_valid : List Judgement → Bool
 all_valid judgements = list_all (λ j. j.valid) judgements

@@ -14,12 +14,12 @@ use Rattle.c_types_spec.specs.declared.TypeFaultKind.{TypeFaultKind}
 use Rattle.c_types_spec.specs.declared.TypeFaultKind.TheVariants as typing
 use Rattle.code_reach_spec.specs.declared.CodeKind.{CodeKind}
 use Rattle.code_reach_spec.specs.declared.CodeKind.TheVariants.{NoFunction, Ambiguous, Empty, Writable, Misplaced, Undecoded, Indirect, Leaves, Overlap}
-use Rattle.report_text_spec.specs.declared.Quantity.{Quantity}
-use Rattle.report_text_spec.specs.declared.Quantity.TheVariants.{Elf, C, Functions, Nodes, Certificate, Visits, Terms, Variables}
+use Rattle.tv_limits.specs.declared.Quantity.{Quantity}
+use Rattle.tv_limits.specs.declared.Quantity.TheVariants.{Elf, C, Functions, Nodes, Certificate, Visits, Terms, Variables, Call, Steps, Known}
 use Rattle.report_text_spec.specs.declared.SourceKind.{SourceKind}
 use Rattle.report_text_spec.specs.declared.SourceKind.TheVariants.{Token, Syntax, Typing}
-use Rattle.cert_check_spec.specs.declared.RuleFault.{RuleFault}
-use Rattle.cert_check_spec.specs.declared.RuleFault.TheVariants as rule
+use Rattle.cert_check_spec.specs.declared.RuleWord.{RuleWord}
+use Rattle.cert_check_spec.specs.declared.RuleWord.TheVariants as rule
 use Rattle.pair_setup_spec.specs.declared.PairKind.{PairKind}
 use Rattle.pair_setup_spec.specs.declared.PairKind.TheVariants.{NothingListed, NoSource, NoSymbol, ObjectSize, Recursive, StackTooDeep}
 
@@ -32,6 +32,9 @@ quantity_word Certificate = codes "cert"
 quantity_word Visits = codes "visits"
 quantity_word Terms = codes "terms"
 quantity_word Variables = codes "variables"
+quantity_word Call = codes "call"
+quantity_word Steps = codes "steps"
+quantity_word Known = codes "known"
 
 abbrev pub elf_word : ElfKind → List ℕ
 elf_word file.Short = codes "Short"
@@ -120,8 +123,15 @@ code_word Indirect = codes "Indirect"
 code_word Leaves = codes "Leaves"
 code_word Overlap = codes "Overlap"
 
-abbrev pub rule_word : RuleFault → List ℕ
+abbrev pub rule_word : RuleWord → List ℕ
 rule_word rule.Later = codes "Later"
+rule_word rule.Inline = codes "Inline"
+rule_word rule.Point = codes "Point"
+rule_word rule.Count = codes "Count"
+rule_word rule.Callee = codes "Callee"
+rule_word rule.Passed = codes "Passed"
+rule_word rule.Same = codes "Same"
+rule_word rule.Word = codes "Word"
 rule_word rule.Stranger = codes "Stranger"
 rule_word rule.Stack = codes "Stack"
 rule_word rule.Sort = codes "Sort"

@@ -7,10 +7,11 @@ ghost use Rattle.c_types_spec.specs.HasType.{IsTypedUnit};
 ghost use Rattle.c_types.specs.Typed.{typed_of};
 
 use crate::faults::named;
-use c_parse::{ParseError, discard, parse};
+use attempt::Refusal;
+use c_parse::{ParseFault, discard, parse};
 use c_syntax::unit::TranslationUnit;
-use c_token::{Token, TokenError, tokens};
-use c_types::typed::{TypeError, Typed};
+use c_token::{Token, TokenFault, tokens};
+use c_types::typed::{TypeFault, Typed};
 use c_types::unit::check;
 use c_types_laws::laws::{cores_have_small_sizes, cores_of_units_are_typed};
 use row_io::Out;
@@ -23,29 +24,34 @@ fn put_fault<K: Debug>(kind: &K, offset: usize, out: &mut Out) {
     out.show(&offset);
 }
 
-fn put_token_error(error: TokenError, out: &mut Out) {
+fn put_token_error(error: Refusal<TokenFault>, out: &mut Out) {
     match error {
-        TokenError::Fault(fault) => put_fault(&fault.kind, fault.offset, out),
-        TokenError::NoMemory => out.fail(),
+        Refusal::Fault(fault) => put_fault(&fault.kind, fault.offset, out),
+        Refusal::NoMemory => out.fail(),
     }
 }
 
 /// The first fault of tokens; the text has so many bytes.
-pub fn put_parse_error(error: ParseError, tokens: &[Token<'_>], end: usize, out: &mut Out) {
+pub fn put_parse_error(
+    error: Refusal<ParseFault>,
+    tokens: &[Token<'_>],
+    end: usize,
+    out: &mut Out,
+) {
     match error {
-        ParseError::Fault(fault) => put_fault(&fault.kind, fault.offset(tokens, end), out),
-        ParseError::NoMemory => out.fail(),
+        Refusal::Fault(fault) => put_fault(&fault.kind, fault.offset(tokens, end), out),
+        Refusal::NoMemory => out.fail(),
     }
 }
 
-fn put_type_error(error: TypeError, out: &mut Out) {
+fn put_type_error(error: Refusal<TypeFault>, out: &mut Out) {
     match error {
-        TypeError::Fault(kind, offset) => {
+        Refusal::Fault(TypeFault::At(kind, offset)) => {
             out.put(named(kind));
             out.put(" at ");
             out.show(&offset);
         }
-        TypeError::NoMemory => out.fail(),
+        Refusal::NoMemory => out.fail(),
     }
 }
 

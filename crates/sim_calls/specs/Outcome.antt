@@ -10,8 +10,10 @@ use Rattle.sim_rules_spec.specs.Points.{Convention}
 use Rattle.sim_rules_terms.specs.Conventions.{IsConventionOf}
 use Rattle.sim_rules_terms.specs.Held.{AreHeld}
 use Rattle.sim_rules_terms.specs.Lines.{AreLines}
+use Rattle.attempt.specs.declared.refusal.Refusal.{Refusal}
+use Rattle.attempt.specs.declared.refusal.Refusal.TheVariants.{Fault, NoMemory}
 use Rattle.sim_calls.specs.declared.rule.CallFault.{CallFault}
-use Rattle.sim_calls.specs.declared.rule.CallFault.TheVariants.{Sort, NoMemory}
+use Rattle.sim_calls.specs.declared.rule.CallFault.TheVariants.{Sort}
 use Rattle.sim_calls.specs.declared.rule.Setup.{Setup}
 
 pub record IsSetup (c : Convention) (s : Setup) : Type 0 where
@@ -36,6 +38,6 @@ IsBadLine s path before later (Some index) = IsNoLine s path (before ++ later) i
 IsBadLine s path before later None = HasLines s path before later
 
 -- out of memory may come at any time
-abbrev pub IsCallFault : Setting → (path : List ℕ) → List Term → CallFault → Type 0
-IsCallFault s path lines (Sort index) = IsNoLine s path lines index
+abbrev pub IsCallFault : Setting → (path : List ℕ) → List Term → Refusal CallFault → Type 0
+IsCallFault s path lines (Fault (Sort index)) = IsNoLine s path lines index
 IsCallFault s path lines NoMemory = Unit {0}

@@ -19,7 +19,7 @@ use crate::cut::Cut;
 use crate::given::premises;
 use crate::returned::returns;
 use crate::sites::Calls;
-use attempt::attempt;
+use attempt::{Refusal, attempt};
 use proof_tree::{Frame, Setting};
 use sim_rules_terms::{Convention, first_bad, implication};
 use std::alloc::{AllocError, Global};
@@ -56,8 +56,6 @@ pub enum CallFault {
     /// The line at this index is the first that is none: it is ill-sorted, no truth value, or
     /// speaks of a variable out of scope. The lines after the call come after those before it.
     Sort(usize),
-    /// There was no memory.
-    NoMemory,
 }
 
 // The index of the first line of a call that is none, if there is one.
@@ -155,7 +153,7 @@ pub fn obligations(
     calls: &Calls<'_>,
     callee: &Callee,
     lines: &CallLines<'_>,
-) -> Result<Vec<TermId>, CallFault>
+) -> Result<Vec<TermId>, Refusal<CallFault>>
     requires { AreWithin calls.now }
     ensures terms { (c : points.Convention) (s : spec.Callee) → IsSetup c setup.now
         → IsCalleeOf c s callee.now → IfOk result (λ ids. AreObligations bank.new c
@@ -169,13 +167,13 @@ pub fn obligations(
     ensures extends { Extends bank.old bank.new }
 {
     match bad_line(setup.frame.setting, lines) {
-        Some(index) => Err(CallFault::Sort(index)),
+        Some(index) => Err(Refusal::Fault(CallFault::Sort(index))),
         None => {
             let ids = attempt!(
                 call_terms(alloc, bank, setup, calls, callee, lines),
-                CallFault::NoMemory
+                Refusal::NoMemory
             );
-            let all = attempt!(two(alloc, ids), CallFault::NoMemory);
+            let all = attempt!(two(alloc, ids), Refusal::NoMemory);
             Ok(all)
         }
     }

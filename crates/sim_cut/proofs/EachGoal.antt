@@ -5,7 +5,7 @@ use Rattle.std.proofs.Math.ListN.{get_or-map}
 use Rattle.std.proofs.lemmas.List.{length-map, get_or_default}
 use Rattle.std.proofs.lemmas.List.Elements.{All-map}
 use Rattle.std.proofs.lemmas.Bool.{cases_lt}
-use Rattle.graph_core_spec.specs.TransitionSystem.{Mark}
+use Rattle.graph_core_spec.specs.declared.Mark.{Mark}
 use Rattle.graph_core_spec.specs.Graph.{Graphs}
 use Rattle.graph_core_spec.specs.Run.{IsPath}
 use Rattle.proof_tree_spec.specs.declared.Nodes.{Nodes}

@@ -3,7 +3,8 @@ use Rattle.std.proofs.Common.{◌≡◌, ◌∙◌, ◌⊎◌, ℕ, ◌+◌, ◌
 use Rattle.std.proofs.lemmas.List.Elements.{All-head, All-tail, All-nil, All-cons, All-contains, Contains-push_cases}
 use Rattle.std.proofs.lemmas.List.{map-append}
 use Rattle.std.proofs.lemmas.Bool.{both_ways, or_left, cases_lt, false_from_ne_true}
-use Rattle.graph_core_spec.specs.TransitionSystem.{IsTransitionSystem, Mark, after, stopped, StopsAt, IsSafe}
+use Rattle.graph_core_spec.specs.TransitionSystem.{IsTransitionSystem, after, stopped, StopsAt, IsSafe}
+use Rattle.graph_core_spec.specs.declared.Mark.{Mark}
 use Rattle.graph_core_spec.specs.Simulation.{Frame, Goal, Hold, IsRelated, binary_marks, source_marks, HasCountedGoals, EndsAlike, both_return, both_arrive, Agree, IsHeld, held}
 use Rattle.graph_core_spec.proofs.Runs.{after-add, stopped_on, stops_once}
 use Rattle.proof_tree_spec.specs.declared.Counts.{Counts}

@@ -2,7 +2,8 @@
 use Rattle.std.proofs.Common.{◌≡◌, ◌∙◌, ℕ, zero, suc, ◌+◌, ◌-◌, ◌<◌, ◌==◌, ◌&&◌, Bool, true, false, List, [], ◌∷◌, refl, sym, ap, subst, inl, inr, arith}
 use Rattle.std.proofs.lemmas.Bool.{eqb-true, and_parts, both_ways, cases_lt}
 use Rattle.std.proofs.lemmas.List.Elements.{Contains-push_cases}
-use Rattle.graph_core_spec.specs.TransitionSystem.{TransitionSystem, Mark, after, arrivals, reached, stopped, StopsAt, IsSafe, KeepsBounds}
+use Rattle.graph_core_spec.specs.TransitionSystem.{TransitionSystem, after, arrivals, reached, stopped, StopsAt, IsSafe, KeepsBounds}
+use Rattle.graph_core_spec.specs.declared.Mark.{Mark}
 use Rattle.graph_core_spec.specs.Simulation.{Frame, Goal, binary_marks, source_marks, EndsAlike, both_return, both_arrive, Agree, IsHeld, held, IsStart, Simulates}
 use Rattle.graph_core_spec.proofs.Runs.{stops_once, stopped_on}
 use Rattle.proof_tree_spec.specs.Cuts.{once, Passes, IsClear, goal_at, with_goal, from_cut, across, Splits, Calls}

@@ -2,7 +2,8 @@
 use Rattle.std.proofs.Common.{◌≡◌, ◌≢◌, ◌∙◌, ◌⊎◌, ℕ, ◌+◌, ◌-◌, ◌<◌, ◌≤◌, zero, suc, Bool, true, false, nat_le, List, [], ◌∷◌, ◌++◌, All, refl, sym, ap, ap₂, subst, inl, inr, arith, ◌||◌, slice_index_or}
 use Rattle.std.proofs.lemmas.List.Elements.{All-nil, All-cons, All-head, All-tail}
 use Rattle.std.proofs.lemmas.Bool.{or_parts, or_from, or_cases, or_left, or_right, both_ways, leb-true, leb-false, lt-leb, false_from_ne_true, cases_lt, cases_eq, cases_Bool}
-use Rattle.graph_core_spec.specs.TransitionSystem.{TransitionSystem, IsTransitionSystem, Mark, AreCounted, after, arrivals, tick, reached, stopped, marks_left, StopsAt}
+use Rattle.graph_core_spec.specs.TransitionSystem.{TransitionSystem, IsTransitionSystem, AreCounted, after, arrivals, tick, reached, stopped, marks_left, StopsAt}
+use Rattle.graph_core_spec.specs.declared.Mark.{Mark}
 use Rattle.graph_core_spec.proofs.Runs.{after-add, arrivals-add, stopped-add, still, not_stopped_at_once}
 use Rattle.proof_tree_spec.specs.Cuts.{Passes}
 

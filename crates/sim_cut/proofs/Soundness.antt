@@ -2,7 +2,8 @@
 use Rattle.std.proofs.Common.{◌≡◌, ◌∙◌, ◌⊎◌, ℕ, ◌+◌, ◌<◌, zero, suc, Bool, true, false, List, [], ◌∷◌, ◌++◌, All, refl, sym, ap, subst, inl, inr, arith}
 use Rattle.std.proofs.lemmas.List.Elements.{Contains-push_cases}
 use Rattle.std.proofs.lemmas.Bool.{both_ways, and_from}
-use Rattle.graph_core_spec.specs.TransitionSystem.{TransitionSystem, IsTransitionSystem, Mark, after, stopped, StopsAt, IsSafe, KeepsBounds}
+use Rattle.graph_core_spec.specs.TransitionSystem.{TransitionSystem, IsTransitionSystem, after, stopped, StopsAt, IsSafe, KeepsBounds}
+use Rattle.graph_core_spec.specs.declared.Mark.{Mark}
 use Rattle.graph_core_spec.specs.Simulation.{Frame, Goal, Hold, IsRelated, binary_marks, source_marks, HasCountedGoals, EndsAlike, both_return, both_arrive, Agree, IsHeld, held, IsStart, Simulates}
 use Rattle.graph_core_spec.proofs.Runs.{after-add, always_kept}
 use Rattle.proof_tree_spec.specs.declared.Counts.{Counts}

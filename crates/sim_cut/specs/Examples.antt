@@ -1,6 +1,7 @@
 -- Frames over which no rule may cut, though what the rule leaves to show holds all the same.
 use Rattle.std.specs.Prelude.{ℕ, suc, ◌==◌, ◌&&◌, ◌||◌, Bool, true, false, nat_lt, if◌then◌else◌, [], ◌∷◌, ⊤}
-use Rattle.graph_core_spec.specs.TransitionSystem.{TransitionSystem, Mark}
+use Rattle.graph_core_spec.specs.TransitionSystem.{TransitionSystem}
+use Rattle.graph_core_spec.specs.declared.Mark.{Mark}
 use Rattle.graph_core_spec.specs.Simulation.{Frame, Hold}
 
 abbrev pub any_state : ℕ → Type 0

@@ -2,10 +2,9 @@
 use Rattle.std.proofs.Common.{◌≡◌, ◌∙◌, ℕ, ◌+◌, ◌<◌, List, [], ◌∷◌, ◌++◌, length, map, take, get_or, sym, ap, append_assoc, append-nil}
 use Rattle.std.proofs.lemmas.List.{take_more, map-append}
 use Rattle.std.proofs.lemmas.Simd.{map-map}
-use Rattle.visit_walk_spec.specs.declared.Mark.{Mark as VisitMark}
 use Rattle.visit_walk_spec.specs.Shape.{Shape}
 use Rattle.visit_walk_spec.specs.Visits.{Walk}
-use Rattle.proof_tree_spec.specs.declared.Mark.{Mark}
+use Rattle.graph_core_spec.specs.declared.Mark.{Mark}
 use Rattle.proof_tree_spec.specs.Frames as spec
 use Rattle.proof_tree.specs.declared.frame.Frame.{Frame}
 use Rattle.proof_tree.specs.Frames.{frame_of, goal_of, mark_of}
@@ -13,8 +12,8 @@ use Rattle.sim_rules_spec.specs.Rules.{Opening}
 use Rattle.sim_rules_spec.specs.Sides.{visit_mark}
 use Rattle.sim_rules.specs.declared.plan.Change.{Change}
 use Rattle.sim_rules.specs.declared.plan.Change.TheVariants.{Plain, Holding, Restricting}
-use Rattle.sim_rules.specs.declared.side.Side.{Side}
-use Rattle.sim_rules.specs.declared.side.Side.TheVariants.{Binary, Source}
+use Rattle.sim_rules_spec.specs.declared.Side.{Side}
+use Rattle.sim_rules_spec.specs.declared.Side.TheVariants.{Binary, Source}
 use Rattle.sim_rules.specs.Made.{IsShapeFor, changed}
 use Rattle.sim_rules.specs.Marks.{bound_of, bounds_with, stop_mark, stops_with}
 use Rattle.sim_rules.specs.Sides.{bounds_at, marks_at, side_at, start_at, way_at}
@@ -29,13 +28,13 @@ added_more {X} {Y} f xs i d old now less is =
 
 -- ---- as a rule changes them
 
-pub no_hold : (change : Change) (xs : List VisitMark) → stops_with change [] ≡ [] → xs ≡ xs ++ stops_with change []
-no_hold change xs none = sym (append-nil xs) ∙ ap (λ (l : List VisitMark). xs ++ l) (sym none)
+pub no_hold : (change : Change) (xs : List Mark) → stops_with change [] ≡ [] → xs ≡ xs ++ stops_with change []
+no_hold change xs none = sym (append-nil xs) ∙ ap (λ (l : List Mark). xs ++ l) (sym none)
 
-pub with_stops : (change : Change) (none old xs : List VisitMark) → none ≡ [] → old ≡ none ++ stops_with change [] → old ++ xs ≡ stops_with change xs
-with_stops Plain none old xs e is = ap (λ (l : List VisitMark). l ++ xs) (is ∙ ap (λ (l : List VisitMark). l ++ []) e)
-with_stops (Holding n) none old xs e is = ap (λ (l : List VisitMark). l ++ xs) (is ∙ ap (λ (l : List VisitMark). l ++ stops_with (Holding n) []) e)
-with_stops (Restricting b) none old xs e is = ap (λ (l : List VisitMark). l ++ xs) (is ∙ ap (λ (l : List VisitMark). l ++ []) e)
+pub with_stops : (change : Change) (none old xs : List Mark) → none ≡ [] → old ≡ none ++ stops_with change [] → old ++ xs ≡ stops_with change xs
+with_stops Plain none old xs e is = ap (λ (l : List Mark). l ++ xs) (is ∙ ap (λ (l : List Mark). l ++ []) e)
+with_stops (Holding n) none old xs e is = ap (λ (l : List Mark). l ++ xs) (is ∙ ap (λ (l : List Mark). l ++ stops_with (Holding n) []) e)
+with_stops (Restricting b) none old xs e is = ap (λ (l : List Mark). l ++ xs) (is ∙ ap (λ (l : List Mark). l ++ []) e)
 
 -- ---- as the definitions have them
 
@@ -48,11 +47,11 @@ stops_are f Source =
 pub bounds_are : (bounds : List Mark) → map bound_of bounds ≡ map visit_mark (map mark_of bounds)
 bounds_are bounds = sym (map-map visit_mark mark_of bounds)
 
-abbrev pub walk_by : Shape → (start : ℕ) → (stops bounds : List VisitMark) → Walk
+abbrev pub walk_by : Shape → (start : ℕ) → (stops bounds : List Mark) → Walk
 walk_by shape start stops bounds = record { shape = shape; start = start; stops = stops; bounds = bounds }
 
 module _ (o : Opening) (f : spec.Frame) (side : Side) where
-  pub made_walk : (change : Change) (shape : Shape) (start : ℕ) (stops bounds : List VisitMark) → IsShapeFor (side_at f side) change shape → start ≡ start_at f side
+  pub made_walk : (change : Change) (shape : Shape) (start : ℕ) (stops bounds : List Mark) → IsShapeFor (side_at f side) change shape → start ≡ start_at f side
       → stops ≡ stops_with change (map visit_mark (marks_at f side)) → bounds ≡ bounds_with change (map visit_mark (bounds_at f side))
       → walk_by shape start stops bounds ≡ (changed (way_at o f side) change shape).walk
   made_walk Plain shape start stops bounds e p q r = λ i. walk_by (e i) (p i) (q i) (r i)

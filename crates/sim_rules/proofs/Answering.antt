@@ -12,8 +12,10 @@ use Rattle.sim_rules_spec.specs.Obligations as spec
 use Rattle.sim_rules_spec.specs.Obligations.{Rule, IsNoLine}
 use Rattle.sim_rules_spec.specs.Points.{Convention}
 use Rattle.sim_rules_spec.specs.Rules.{Opening}
+use Rattle.attempt.specs.declared.refusal.Refusal.{Refusal}
+use Rattle.attempt.specs.declared.refusal.Refusal.TheVariants.{Fault, NoMemory}
 use Rattle.sim_rules.specs.declared.fault.RuleFault.{RuleFault}
-use Rattle.sim_rules.specs.declared.fault.RuleFault.TheVariants.{Sort, Cyclic, Large, NoMemory}
+use Rattle.sim_rules.specs.declared.fault.RuleFault.TheVariants.{Sort, Cyclic, Large}
 use Rattle.sim_rules.specs.declared.plan.Walking.{Walking}
 use Rattle.sim_rules.specs.declared.plan.Walking.TheVariants.{Leaf, RestrictBinary, RestrictSource, Wait}
 use Rattle.sim_rules.specs.declared.setup.Setup.{Setup}
@@ -26,7 +28,7 @@ use Rattle.sim_rules.specs.Rules.{walking_of}
 use Rattle.sim_rules.specs.Setups.{IsSetup}
 
 abbrev Reply : Type 0
-Reply = Result (Vec ℕ Global) RuleFault
+Reply = Result (Vec ℕ Global) (Refusal RuleFault)
 
 -- ---- nothing is left to show
 
@@ -56,10 +58,10 @@ module _ (trees : List Term) (s : Setup) (r : Reply) (none : IfOk r (λ ids. ids
     fault = λ o. IfErr-weaker r (IsLineFault f.setting f.start.path (test ∷ [])) (IsRuleFault o f s.maximum (spec.Case test)) (bad o) fault;
   }
     where
-      bad : (o : Opening) (x : RuleFault) → IsLineFault f.setting f.start.path (test ∷ []) x → IsRuleFault o f s.maximum (spec.Case test) x
-      bad o (Sort index) h = h
-      bad o (Cyclic node) h = h
-      bad o (Large count) h = h
+      bad : (o : Opening) (x : Refusal RuleFault) → IsLineFault f.setting f.start.path (test ∷ []) x → IsRuleFault o f s.maximum (spec.Case test) x
+      bad o (Fault (Sort index)) h = h
+      bad o (Fault (Cyclic side node)) h = absurd h
+      bad o (Fault (Large side count)) h = absurd h
       bad o NoMemory h = tt
 
   pub of_lines : (path : List ℕ) (lines : List Term) → OnOk r (AreLines f.setting path lines) → IfErr r (IsLineFault f.setting path lines) → IsAnswer trees trees s (spec.Cut path lines) r
@@ -71,10 +73,10 @@ module _ (trees : List Term) (s : Setup) (r : Reply) (none : IfOk r (λ ids. ids
     fault = λ o. IfErr-weaker r (IsLineFault f.setting path lines) (IsRuleFault o f s.maximum (spec.Cut path lines)) (bad o) fault;
   }
     where
-      bad : (o : Opening) (x : RuleFault) → IsLineFault f.setting path lines x → IsRuleFault o f s.maximum (spec.Cut path lines) x
-      bad o (Sort index) h = h
-      bad o (Cyclic node) h = h
-      bad o (Large count) h = h
+      bad : (o : Opening) (x : Refusal RuleFault) → IsLineFault f.setting path lines x → IsRuleFault o f s.maximum (spec.Cut path lines) x
+      bad o (Fault (Sort index)) h = h
+      bad o (Fault (Cyclic side node)) h = absurd h
+      bad o (Fault (Large side count)) h = absurd h
       bad o NoMemory h = tt
 
 -- ---- both sides' walks

@@ -8,11 +8,13 @@ use Rattle.proof_tree_spec.specs.Frames.{Frame}
 use Rattle.proof_tree.specs.Frames.{mark_of}
 use Rattle.sim_rules_spec.specs.Rules.{Opening, restricted}
 use Rattle.sim_rules_spec.specs.Sides.{binary_way, source_way}
+use Rattle.attempt.specs.declared.refusal.Refusal.{Refusal}
+use Rattle.attempt.specs.declared.refusal.Refusal.TheVariants.{Fault, NoMemory}
 use Rattle.sim_rules.specs.declared.fault.RuleFault.{RuleFault}
-use Rattle.sim_rules.specs.declared.fault.RuleFault.TheVariants.{Sort, Cyclic, Large, NoMemory}
+use Rattle.sim_rules.specs.declared.fault.RuleFault.TheVariants.{Sort, Cyclic, Large}
 use Rattle.sim_rules.specs.declared.plan.Walking.{Walking}
 use Rattle.sim_rules.specs.declared.plan.Walking.TheVariants.{Leaf, RestrictBinary, RestrictSource, Wait}
-use Rattle.sim_rules.specs.declared.side.Side.TheVariants.{Binary, Source}
+use Rattle.sim_rules_spec.specs.declared.Side.TheVariants.{Binary, Source}
 use Rattle.sim_rules.specs.Faults.{AreFew, IsPlanAnswer, IsPlanFault}
 use Rattle.sim_rules.specs.Made.{IsShapeFor, changed}
 use Rattle.sim_rules.specs.Outcome.{HasFewVisits, IsRuleAnswer, IsRuleFault}
@@ -23,35 +25,35 @@ use Rattle.sim_rules.proofs.Counting.{one_shape}
 use Rattle.sim_rules.proofs.Knowing.{not_true}
 
 module _ (o : Opening) (f : Frame) (maximum : ℕ) (sa sd : Shape) where
-  abbrev IsFaultOf : Walking → RuleFault → Type 0
+  abbrev IsFaultOf : Walking → Refusal RuleFault → Type 0
   IsFaultOf rule fault =
       IsPlanFault (plan_for rule) (changed (way_at o f Binary) (plan_for rule).binary sa).walk (changed (way_at o f Source) (plan_for rule).source sd).walk maximum fault
 
-  by_rule : (rule : Walking) (fault : RuleFault) → IsShapeFor (side_at f Binary) (plan_for rule).binary sa → IsShapeFor (side_at f Source) (plan_for rule).source sd
+  by_rule : (rule : Walking) (fault : Refusal RuleFault) → IsShapeFor (side_at f Binary) (plan_for rule).binary sa → IsShapeFor (side_at f Source) (plan_for rule).source sd
       → IsFaultOf rule fault → IsRuleFault o f maximum (walking_of rule) fault
-  by_rule Leaf (Sort i) of_a of_d h = h
-  by_rule Leaf (Cyclic n) of_a of_d h = elim h [ inl x ↦ inl x.1 | inr x ↦ inr (x.0 refl, x.2) ]
-  by_rule Leaf (Large n) of_a of_d h = (h.0 refl, h.1 refl, h.2)
+  by_rule Leaf (Fault (Sort i)) of_a of_d h = h
+  by_rule Leaf (Fault (Cyclic Binary n)) of_a of_d h = h.1
+  by_rule Leaf (Fault (Cyclic Source n)) of_a of_d h = (h.0 refl, h.2)
+  by_rule Leaf (Fault (Large Binary n)) of_a of_d h = (h.0 refl, h.1 refl, h.2)
+  by_rule Leaf (Fault (Large Source n)) of_a of_d h = (h.0 refl, h.1 refl, h.2)
   by_rule Leaf NoMemory of_a of_d h = tt
-  by_rule (RestrictBinary b) (Sort i) of_a of_d h = h
-  by_rule (RestrictBinary b) (Cyclic n) of_a of_d h = elim h [
-    | inl x ↦ ((changed (way_at o f Binary) (plan_for (RestrictBinary b)).binary sa).walk, record { shape = sa; cut = of_a; walk_is = refl }, x.1)
-    | inr x ↦ absurd (not_true x.1)
-  ]
-  by_rule (RestrictBinary b) (Large n) of_a of_d h =
-      ((changed (way_at o f Binary) (plan_for (RestrictBinary b)).binary sa).walk, record { shape = sa; cut = of_a; walk_is = refl }, h.0 refl, h.2)
+  by_rule (RestrictBinary b) (Fault (Sort i)) of_a of_d h = h
+  by_rule (RestrictBinary b) (Fault (Cyclic Binary n)) of_a of_d h = ((changed (way_at o f Binary) (plan_for (RestrictBinary b)).binary sa).walk, record { shape = sa; cut = of_a; walk_is = refl }, h.1)
+  by_rule (RestrictBinary b) (Fault (Cyclic Source n)) of_a of_d h = absurd (not_true h.1)
+  by_rule (RestrictBinary b) (Fault (Large Binary n)) of_a of_d h = ((changed (way_at o f Binary) (plan_for (RestrictBinary b)).binary sa).walk, record { shape = sa; cut = of_a; walk_is = refl }, h.0 refl, h.2)
+  by_rule (RestrictBinary b) (Fault (Large Source n)) of_a of_d h = ((changed (way_at o f Binary) (plan_for (RestrictBinary b)).binary sa).walk, record { shape = sa; cut = of_a; walk_is = refl }, h.0 refl, h.2)
   by_rule (RestrictBinary b) NoMemory of_a of_d h = tt
-  by_rule (RestrictSource b) (Sort i) of_a of_d h = h
-  by_rule (RestrictSource b) (Cyclic n) of_a of_d h = elim h [
-    | inl x ↦ absurd (not_true x.0)
-    | inr x ↦ ((changed (way_at o f Source) (plan_for (RestrictSource b)).source sd).walk, record { shape = sd; cut = of_d; walk_is = refl }, x.2)
-  ]
-  by_rule (RestrictSource b) (Large n) of_a of_d h =
-      ((changed (way_at o f Source) (plan_for (RestrictSource b)).source sd).walk, record { shape = sd; cut = of_d; walk_is = refl }, h.1 refl, h.2)
+  by_rule (RestrictSource b) (Fault (Sort i)) of_a of_d h = h
+  by_rule (RestrictSource b) (Fault (Cyclic Binary n)) of_a of_d h = absurd (not_true h.0)
+  by_rule (RestrictSource b) (Fault (Cyclic Source n)) of_a of_d h = ((changed (way_at o f Source) (plan_for (RestrictSource b)).source sd).walk, record { shape = sd; cut = of_d; walk_is = refl }, h.2)
+  by_rule (RestrictSource b) (Fault (Large Binary n)) of_a of_d h = ((changed (way_at o f Source) (plan_for (RestrictSource b)).source sd).walk, record { shape = sd; cut = of_d; walk_is = refl }, h.1 refl, h.2)
+  by_rule (RestrictSource b) (Fault (Large Source n)) of_a of_d h = ((changed (way_at o f Source) (plan_for (RestrictSource b)).source sd).walk, record { shape = sd; cut = of_d; walk_is = refl }, h.1 refl, h.2)
   by_rule (RestrictSource b) NoMemory of_a of_d h = tt
-  by_rule (Wait hold) (Sort i) of_a of_d h = h
-  by_rule (Wait hold) (Cyclic n) of_a of_d h = elim h [ inl x ↦ x.1 | inr x ↦ absurd (not_true x.1) ]
-  by_rule (Wait hold) (Large n) of_a of_d h = (h.0 refl, h.2)
+  by_rule (Wait hold) (Fault (Sort i)) of_a of_d h = h
+  by_rule (Wait hold) (Fault (Cyclic Binary n)) of_a of_d h = h.1
+  by_rule (Wait hold) (Fault (Cyclic Source n)) of_a of_d h = absurd (not_true h.1)
+  by_rule (Wait hold) (Fault (Large Binary n)) of_a of_d h = (h.0 refl, h.2)
+  by_rule (Wait hold) (Fault (Large Source n)) of_a of_d h = (h.0 refl, h.2)
   by_rule (Wait hold) NoMemory of_a of_d h = tt
 
   few_by : (rule : Walking) → IsShapeFor (side_at f Binary) (plan_for rule).binary sa → IsShapeFor (side_at f Source) (plan_for rule).source sd
@@ -65,12 +67,12 @@ module _ (o : Opening) (f : Frame) (maximum : ℕ) (sa sd : Shape) where
       h count (subst (λ (w : Walk). AreTooMany (binary_way f o.binary).walk maximum count ⊎ AreTooMany w maximum count) same x.3)
   few_by (Wait hold) of_a of_d h = λ count x. h count x.1
 
-  by_answer : {X : Type 0} (rule : Walking) (r : Result X RuleFault) → IsShapeFor (side_at f Binary) (plan_for rule).binary sa → IsShapeFor (side_at f Source) (plan_for rule).source sd
+  by_answer : {X : Type 0} (rule : Walking) (r : Result X (Refusal RuleFault)) → IsShapeFor (side_at f Binary) (plan_for rule).binary sa → IsShapeFor (side_at f Source) (plan_for rule).source sd
       → IsPlanAnswer (plan_for rule) (changed (way_at o f Binary) (plan_for rule).binary sa).walk (changed (way_at o f Source) (plan_for rule).source sd).walk maximum r → IsRuleAnswer o f maximum (walking_of rule) r
   by_answer rule (Ok x) of_a of_d h = few_by rule of_a of_d h
   by_answer rule (Err fault) of_a of_d h = by_rule rule fault of_a of_d h
 
-  pub rule_answer : {X : Type 0} (rule : Walking) (r : Result X RuleFault) (a d : Walk) → IsShapeFor (side_at f Binary) (plan_for rule).binary sa → IsShapeFor (side_at f Source) (plan_for rule).source sd
+  pub rule_answer : {X : Type 0} (rule : Walking) (r : Result X (Refusal RuleFault)) (a d : Walk) → IsShapeFor (side_at f Binary) (plan_for rule).binary sa → IsShapeFor (side_at f Source) (plan_for rule).source sd
       → a ≡ (changed (way_at o f Binary) (plan_for rule).binary sa).walk → d ≡ (changed (way_at o f Source) (plan_for rule).source sd).walk
       → IsPlanAnswer (plan_for rule) a d maximum r → IsRuleAnswer o f maximum (walking_of rule) r
   rule_answer rule r a d of_a of_d p q h =

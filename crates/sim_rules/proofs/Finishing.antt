@@ -12,7 +12,7 @@ use Rattle.sim_rules_spec.specs.Rules.{Opening, Seen, premise_terms, stops, leaf
 use Rattle.sim_rules_spec.specs.Sides.{Way, AreVisitsIf}
 use Rattle.sim_rules.specs.declared.plan.Walking.{Walking}
 use Rattle.sim_rules.specs.declared.plan.Walking.TheVariants.{Leaf, RestrictBinary, RestrictSource, Wait}
-use Rattle.sim_rules.specs.declared.side.Side.TheVariants.{Binary, Source}
+use Rattle.sim_rules_spec.specs.declared.Side.TheVariants.{Binary, Source}
 use Rattle.sim_rules.specs.Compared.{Compared, compared_by}
 use Rattle.sim_rules_terms.specs.Held.{AreHeld}
 use Rattle.sim_rules.specs.Made.{IsShapeFor, changed}

@@ -12,6 +12,7 @@ use Rattle.graph_core.specs.Graphs.{graph_of}
 use Rattle.visit_walk_spec.specs.Listing.{Listing, IsListing}
 use Rattle.visit_walk_spec.specs.Visits.{Walk}
 use Rattle.visit_walk.specs.Found.{IsWalkFault}
+use Rattle.attempt.specs.declared.refusal.Refusal.{Refusal}
 use Rattle.visit_walk.specs.declared.found.WalkFault.{WalkFault}
 use Rattle.path_cond.specs.States.{IsMapOf}
 use Rattle.proof_tree.specs.Frames.{frame_of, terms_of}
@@ -24,8 +25,8 @@ use Rattle.sim_rules_terms.specs.Openings.{IsOpening, IsOpeningIn}
 use Rattle.sim_rules_terms.specs.Ways.{IsWay, walk_on}
 use Rattle.sim_rules_terms.proofs.Later.{map_later, opening_later}
 use Rattle.sim_rules.specs.declared.setup.Setup.{Setup}
-use Rattle.sim_rules.specs.declared.side.Side.{Side}
-use Rattle.sim_rules.specs.declared.side.Side.TheVariants.{Binary, Source}
+use Rattle.sim_rules_spec.specs.declared.Side.{Side}
+use Rattle.sim_rules_spec.specs.declared.Side.TheVariants.{Binary, Source}
 use Rattle.sim_rules.specs.declared.plan.Change.{Change}
 use Rattle.sim_rules.specs.declared.plan.Change.TheVariants.{Plain, Holding, Restricting}
 use Rattle.sim_rules.specs.declared.walked.Walked.{Walked}
@@ -108,10 +109,10 @@ own_setup trees s is = record {
 
 -- ---- what a walk gives
 
-pub outcome : (w : Walk) (maximum : ℕ) (r : Result Listing WalkFault) → IfOk r (IsListing w maximum) → IfErr r (IsWalkFault w maximum) → IsOutcome w maximum r
+pub outcome : (w : Walk) (maximum : ℕ) (r : Result Listing (Refusal WalkFault)) → IfOk r (IsListing w maximum) → IfErr r (IsWalkFault w maximum) → IsOutcome w maximum r
 outcome w maximum (Ok listing) ok err = ok
 outcome w maximum (Err fault) ok err = err
 
 -- of the way that was asked for
-pub outcome_of : (trees : List Term) (w : sides.Way) (way : Way) (maximum : ℕ) (r : Result Listing WalkFault) → IsWay trees w way → IsOutcome (walk_on way) maximum r → IsOutcome w.walk maximum r
+pub outcome_of : (trees : List Term) (w : sides.Way) (way : Way) (maximum : ℕ) (r : Result Listing (Refusal WalkFault)) → IsWay trees w way → IsOutcome (walk_on way) maximum r → IsOutcome w.walk maximum r
 outcome_of trees w way maximum r is h = subst (λ (walk : Walk). IsOutcome walk maximum r) is.walk h

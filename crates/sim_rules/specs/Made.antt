@@ -12,7 +12,7 @@ use Rattle.sim_rules_spec.specs.Rules.{Opening, hold_mark, restricted}
 use Rattle.sim_rules_terms.specs.declared.way.Way.{Way}
 use Rattle.sim_rules_terms.specs.Ways.{walk_on}
 use Rattle.sim_rules.specs.declared.setup.Setup.{Setup}
-use Rattle.sim_rules.specs.declared.side.Side.{Side}
+use Rattle.sim_rules_spec.specs.declared.Side.{Side}
 use Rattle.sim_rules.specs.declared.plan.Change.{Change}
 use Rattle.sim_rules.specs.declared.plan.Change.TheVariants.{Plain, Holding, Restricting}
 use Rattle.sim_rules.specs.Sides.{ids_at, side_at, way_at}

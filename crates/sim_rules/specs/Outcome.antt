@@ -5,9 +5,11 @@ use Rattle.proof_tree_spec.specs.Frames.{Frame}
 use Rattle.sim_rules_spec.specs.Points.{Convention}
 use Rattle.sim_rules_spec.specs.Rules.{Opening}
 use Rattle.sim_rules_spec.specs.Obligations as spec
-use Rattle.sim_rules_spec.specs.Obligations.{Rule, HasNoLine, IsCyclicRule, IsLargeRule}
+use Rattle.sim_rules_spec.specs.Obligations.{Rule, HasNoLine, IsCyclicOn, IsLargeOn, IsLargeRule}
+use Rattle.attempt.specs.declared.refusal.Refusal.{Refusal}
+use Rattle.attempt.specs.declared.refusal.Refusal.TheVariants.{Fault, NoMemory}
 use Rattle.sim_rules.specs.declared.fault.RuleFault.{RuleFault}
-use Rattle.sim_rules.specs.declared.fault.RuleFault.TheVariants.{Sort, Cyclic, Large, NoMemory}
+use Rattle.sim_rules.specs.declared.fault.RuleFault.TheVariants.{Sort, Cyclic, Large}
 use Rattle.sim_rules_terms.specs.Held.{AreHeld}
 
 -- the ids are those of the rule's obligations, in their order
@@ -17,10 +19,10 @@ pub record AreObligations (trees : List Term) (c : Convention) (o : Opening) (f 
   pub held : AreHeld trees ids terms
 
 -- out of memory may come at any time
-abbrev pub IsRuleFault : Opening → Frame → (maximum : ℕ) → Rule → RuleFault → Type 0
-IsRuleFault o f maximum rule (Sort index) = HasNoLine f rule index
-IsRuleFault o f maximum rule (Cyclic node) = IsCyclicRule o f rule node
-IsRuleFault o f maximum rule (Large count) = IsLargeRule o f maximum rule count
+abbrev pub IsRuleFault : Opening → Frame → (maximum : ℕ) → Rule → Refusal RuleFault → Type 0
+IsRuleFault o f maximum rule (Fault (Sort index)) = HasNoLine f rule index
+IsRuleFault o f maximum rule (Fault (Cyclic side node)) = IsCyclicOn o f rule side node
+IsRuleFault o f maximum rule (Fault (Large side count)) = IsLargeOn o f maximum rule side count
 IsRuleFault o f maximum rule NoMemory = Unit {0}
 
 -- each line of the rule is one
@@ -32,6 +34,6 @@ abbrev pub HasFewVisits : Opening → Frame → (maximum : ℕ) → Rule → Typ
 HasFewVisits o f maximum rule = (count : ℕ) → IsLargeRule o f maximum rule count → ⊥
 
 -- of no fault this, and a fault is one of the rule
-abbrev pub IsRuleAnswer : {X : Type 0} → Opening → Frame → (maximum : ℕ) → Rule → Result X RuleFault → Type 0
+abbrev pub IsRuleAnswer : {X : Type 0} → Opening → Frame → (maximum : ℕ) → Rule → Result X (Refusal RuleFault) → Type 0
 IsRuleAnswer o f maximum rule (Ok x) = HasFewVisits o f maximum rule
 IsRuleAnswer o f maximum rule (Err fault) = IsRuleFault o f maximum rule fault

@@ -4,7 +4,7 @@ use Rattle.sim_rules.specs.declared.plan.Walking.{Walking}
 use Rattle.sim_rules.specs.declared.plan.Walking.TheVariants.{Leaf, RestrictBinary, RestrictSource, Wait}
 use Rattle.sim_rules.specs.declared.plan.Change.TheVariants.{Plain, Holding, Restricting}
 use Rattle.sim_rules.specs.declared.plan.Plan.{Plan}
-use Rattle.sim_rules.specs.declared.side.Side.TheVariants.{Binary, Source}
+use Rattle.sim_rules_spec.specs.declared.Side.TheVariants.{Binary, Source}
 
 abbrev pub plan_for : Walking → Plan
 plan_for Leaf = record { binary = Plain; source = Plain; needs_binary = true; needs_source = true; main = Binary; is_source_safe = true }

@@ -6,12 +6,13 @@ use Rattle.proof_tree.specs.Frames.{frame_of}
 use Rattle.sim_rules_spec.specs.Obligations.{Rule}
 use Rattle.sim_rules_spec.specs.Points.{Convention}
 use Rattle.sim_rules_spec.specs.Rules.{Opening}
+use Rattle.attempt.specs.declared.refusal.Refusal.{Refusal}
 use Rattle.sim_rules.specs.declared.fault.RuleFault.{RuleFault}
 use Rattle.sim_rules.specs.declared.setup.Setup.{Setup}
 use Rattle.sim_rules.specs.Outcome.{AreObligations, HasFewVisits, HasLines, IsRuleFault}
 use Rattle.sim_rules.specs.Setups.{IsSetup}
 
-pub record IsAnswer (before now : List Term) (s : Setup) (rule : Rule) (r : Result (Vec ℕ Global) RuleFault) : Type 0 where
+pub record IsAnswer (before now : List Term) (s : Setup) (rule : Rule) (r : Result (Vec ℕ Global) (Refusal RuleFault)) : Type 0 where
   pub terms : (c : Convention) (o : Opening) → IsSetup before c o s → IfOk r (λ ids. AreObligations now c o (frame_of s.frame.now) rule ids.items)
   pub within : IfOk r (λ ids. All (λ (id : ℕ). id < length now) ids.items)
   pub lines : OnOk r (HasLines (frame_of s.frame.now) rule)

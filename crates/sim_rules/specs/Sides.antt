@@ -1,7 +1,7 @@
 -- One side of a frame.
 use Rattle.std.specs.Prelude.{◌≡◌, ℕ, List, map, Option}
 use Rattle.term_core_spec.specs.Substitution.{State as Terms}
-use Rattle.graph_core_spec.specs.TransitionSystem.{Mark}
+use Rattle.graph_core_spec.specs.declared.Mark.{Mark}
 use Rattle.proof_tree_spec.specs.Frames as spec
 use Rattle.proof_tree_spec.specs.Frames.{Frame, binary_marks, source_marks}
 use Rattle.proof_tree.specs.Frames.{frame_of, mark_of, side_of}
@@ -12,8 +12,8 @@ use Rattle.term_core_spec.specs.Same.{same_variable}
 use Rattle.term_core_spec.specs.declared.Variable.{Variable}
 use Rattle.sim_rules_terms.specs.declared.points.Opening.{Opening as CodeOpening}
 use Rattle.sim_rules.specs.declared.setup.Setup.{Setup}
-use Rattle.sim_rules.specs.declared.side.Side.{Side}
-use Rattle.sim_rules.specs.declared.side.Side.TheVariants.{Binary, Source}
+use Rattle.sim_rules_spec.specs.declared.Side.{Side}
+use Rattle.sim_rules_spec.specs.declared.Side.TheVariants.{Binary, Source}
 use Rattle.sim_rules.specs.declared.side.OneSide.{OneSide}
 
 abbrev pub side_at : Frame → Side → spec.Side

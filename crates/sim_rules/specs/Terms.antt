@@ -9,8 +9,8 @@ use Rattle.sim_rules_spec.specs.Rules.{Opening, Seen, Stop, premise_terms, wait_
 use Rattle.sim_rules_spec.specs.Sides.{Way, condition_where, visits_where, visit_mark, breaks, fails}
 use Rattle.sim_rules.specs.Compared.{Compared, stops, comes_too, ends_alike, held_there}
 use Rattle.sim_rules.specs.Plans.{plan_for}
-use Rattle.sim_rules.specs.declared.side.Side.{Side}
-use Rattle.sim_rules.specs.declared.side.Side.TheVariants.{Binary, Source}
+use Rattle.sim_rules_spec.specs.declared.Side.{Side}
+use Rattle.sim_rules_spec.specs.declared.Side.TheVariants.{Binary, Source}
 use Rattle.sim_rules.specs.declared.plan.Walking.{Walking}
 use Rattle.sim_rules.specs.declared.plan.Walking.TheVariants.{Leaf, RestrictBinary, RestrictSource, Wait}
 

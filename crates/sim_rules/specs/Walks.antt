@@ -3,6 +3,7 @@ use Rattle.std.specs.Prelude.{◌≡◌, ℕ, Bool, true, List, Option, Some, No
 use Rattle.term_core_spec.specs.Term.{Term}
 use Rattle.visit_walk_spec.specs.Listing.{Listing}
 use Rattle.visit_walk_spec.specs.Visits.{Visit, Walk}
+use Rattle.attempt.specs.declared.refusal.Refusal.{Refusal}
 use Rattle.visit_walk.specs.declared.found.WalkFault.{WalkFault}
 use Rattle.path_cond_spec.specs.Junctions.{junctions}
 use Rattle.path_cond.specs.declared.found.Conditions.{Conditions}
@@ -20,15 +21,15 @@ use Rattle.sim_rules.specs.Plans.{plan_for}
 use Rattle.sim_rules.specs.Terms.{terms_for}
 
 -- the visits, where there is a list of them
-abbrev pub visits_in : Result Listing WalkFault → Option (List Visit)
+abbrev pub visits_in : Result Listing (Refusal WalkFault) → Option (List Visit)
 visits_in (Ok listing) = Some listing.visits
 visits_in (Err fault) = None
 
-abbrev pub seen_by : Way → Result Listing WalkFault → Seen
+abbrev pub seen_by : Way → Result Listing (Refusal WalkFault) → Seen
 seen_by w visits = record { way = w; visits = visits_in visits }
 
 -- the conditions of the visits
-abbrev pub AreFoundIf : List Term → Way → Result Listing WalkFault → Option Conditions → Type 0
+abbrev pub AreFoundIf : List Term → Way → Result Listing (Refusal WalkFault) → Option Conditions → Type 0
 AreFoundIf trees w (Ok l) (Some found) = AreConditions trees w.start w.graph (junctions w.walk l.visits) found
 AreFoundIf trees w (Ok l) None = ⊥
 AreFoundIf trees w (Err fault) (Some found) = ⊥

@@ -5,6 +5,8 @@ ghost use Rattle.sim_rules.specs.Faults as spec;
 ghost use Rattle.sim_rules.specs.Faults.{fault_in};
 
 use crate::plan::Plan;
+use attempt::Refusal;
+use sim_rules_spec::Side;
 use visit_walk::{Visits, WalkFault};
 
 /// Why a rule has no obligations.
@@ -13,17 +15,16 @@ pub enum RuleFault {
     /// The line at this index is the first that isn't one: it is ill-sorted, no truth value, or
     /// speaks of a variable out of scope. At a call the lines after it come after those before it.
     Sort(usize),
-    /// A walk that has to be acyclic goes round at this node.
-    Cyclic(usize),
-    /// A walk has more visits than the maximum; this is a number above it, and there are at least
-    /// so many.
-    Large(usize),
-    /// There was no memory.
-    NoMemory,
+    /// The walk of this side has to be acyclic and goes round at this node. The source is named
+    /// where the binary's walk doesn't go round, or may.
+    Cyclic(Side, usize),
+    /// The walk of this side has more visits than the maximum; this is a number above it, and there
+    /// are at least so many.
+    Large(Side, usize),
 }
 
 /// Why a walk has no list of visits, if it has none.
-pub(crate) fn walk_fault(visits: &Result<Visits, WalkFault>) -> Option<WalkFault>
+pub(crate) fn walk_fault(visits: &Result<Visits, Refusal<WalkFault>>) -> Option<Refusal<WalkFault>>
     ensures { result ≡ fault_in visits.now }
 {
     match visits {
@@ -33,34 +34,43 @@ pub(crate) fn walk_fault(visits: &Result<Visits, WalkFault>) -> Option<WalkFault
 }
 
 // A walk is cyclic and has to be acyclic, or there was no memory.
-fn cyclic_if(needed: bool, fault: Option<WalkFault>) -> Option<RuleFault>
-    ensures { result ≡ spec.cyclic_if needed fault }
+fn cyclic_if(
+    side: Side,
+    needed: bool,
+    fault: Option<Refusal<WalkFault>>,
+) -> Option<Refusal<RuleFault>>
+    ensures { result ≡ spec.cyclic_if side needed fault }
 {
     match fault {
-        Some(WalkFault::Cyclic(node)) => {
+        Some(Refusal::Fault(WalkFault::Cyclic(node))) => {
             if needed {
-                Some(RuleFault::Cyclic(node))
+                Some(Refusal::Fault(RuleFault::Cyclic(side, node)))
             } else {
                 None
             }
         }
-        Some(WalkFault::NoMemory) => Some(RuleFault::NoMemory),
-        Some(WalkFault::TooMany(_)) | None => None,
+        Some(Refusal::NoMemory) => Some(Refusal::NoMemory),
+        Some(Refusal::Fault(WalkFault::TooMany(_))) | None => None,
     }
 }
 
 // A walk has too many visits.
-fn large_if(fault: Option<WalkFault>) -> Option<RuleFault>
-    ensures { result ≡ spec.large_if fault }
+fn large_if(side: Side, fault: Option<Refusal<WalkFault>>) -> Option<Refusal<RuleFault>>
+    ensures { result ≡ spec.large_if side fault }
 {
     match fault {
-        Some(WalkFault::TooMany(count)) => Some(RuleFault::Large(count)),
-        Some(WalkFault::Cyclic(_)) | Some(WalkFault::NoMemory) | None => None,
+        Some(Refusal::Fault(WalkFault::TooMany(count))) => Some(Refusal::Fault(RuleFault::Large(
+            side, count,
+        ))),
+        Some(Refusal::Fault(WalkFault::Cyclic(_))) | Some(Refusal::NoMemory) | None => None,
     }
 }
 
 // The one fault, or else the other.
-fn first_of(fault: Option<RuleFault>, other: Option<RuleFault>) -> Option<RuleFault>
+fn first_of(
+    fault: Option<Refusal<RuleFault>>,
+    other: Option<Refusal<RuleFault>>,
+) -> Option<Refusal<RuleFault>>
     ensures { result ≡ spec.first_of fault other }
 {
     match fault {
@@ -73,14 +83,20 @@ fn first_of(fault: Option<RuleFault>, other: Option<RuleFault>) -> Option<RuleFa
 /// binary's comes first, then one of the source's, then a number.
 pub(crate) fn first_fault(
     plan: Plan,
-    binary: Option<WalkFault>,
-    source: Option<WalkFault>,
-) -> Option<RuleFault>
+    binary: Option<Refusal<WalkFault>>,
+    source: Option<Refusal<WalkFault>>,
+) -> Option<Refusal<RuleFault>>
     ensures { result ≡ spec.first_fault plan binary source }
 {
     let cyclic = first_of(
-        cyclic_if(plan.needs_binary, binary),
-        cyclic_if(plan.needs_source, source),
+        cyclic_if(Side::Binary, plan.needs_binary, binary),
+        cyclic_if(Side::Source, plan.needs_source, source),
     );
-    first_of(cyclic, first_of(large_if(binary), large_if(source)))
+    first_of(
+        cyclic,
+        first_of(
+            large_if(Side::Binary, binary),
+            large_if(Side::Source, source),
+        ),
+    )
 }

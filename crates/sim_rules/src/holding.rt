@@ -20,12 +20,12 @@ ghost use Rattle.sim_rules.specs.Terms.{held_terms};
 
 use crate::setup::Setup;
 use attempt::attempt;
+use graph_core_spec::Mark;
 use proof_tree::Hold;
 use sim_rules_terms::{Known, Sight, Which, either, relation};
 use std::alloc::{AllocError, Global};
 use term_bank::{Bank, TermId};
 use term_core::Term;
-use visit_walk_spec::Mark;
 
 // Under what may be used, a relation holds, with the source where it starts.
 fn related(

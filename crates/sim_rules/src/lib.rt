@@ -1,7 +1,7 @@
 //! The obligations of the rules of a proof: what is left to show, as terms of a bank.
 //!
 //! [`obligations`] gives exactly the terms of `sim_rules_spec` (`specs/Obligations.antt` there), in
-//! their order, or why there are none ([`RuleFault`]). That valid obligations give the simulation
+//! their order, or why there are none ([`Refusal`]). That valid obligations give the simulation
 //! of a frame is said by `sim_rules_spec::laws`. [`cut_to`] makes the shapes in which walks end at
 //! each node that doesn't lead to a point, by one search backwards from the point, in time linear
 //! in the graph; what they are is said by `IsCutTo` of `sim_rules_spec` (`specs/Sides.antt`).

@@ -6,33 +6,32 @@ ghost use Rattle.sim_rules_spec.specs.Sides.{visit_mark};
 ghost use Rattle.sim_rules.specs.Marks.{bound_of, bounds_with, stop_mark, stops_with};
 
 use crate::plan::Change;
-use crate::side::Side;
 use attempt::attempt;
+use graph_core_spec::Mark;
 use proof_tree::{Goal, Stop};
-use proof_tree_spec::Mark;
+use sim_rules_spec::Side;
 use std::alloc::{AllocError, Global};
-use visit_walk_spec::Mark as Arrival;
 
 /// A mark as a walk has it.
-pub(crate) fn arrival(mark: Mark) -> Arrival
+pub(crate) fn arrival(mark: Mark) -> Mark
     ensures { result ≡ bound_of mark }
 {
     let Mark { node, count } = mark;
-    Arrival { node, count }
+    Mark { node, count }
 }
 
 // A stop as a walk has it.
-fn stop_arrival(stop: &Stop) -> Arrival
+fn stop_arrival(stop: &Stop) -> Mark
     ensures { result ≡ visit_mark (stop_of stop.now) }
 {
-    Arrival {
+    Mark {
         node: stop.at.from,
         count: stop.count,
     }
 }
 
 /// Where a goal stops a side.
-pub(crate) fn goal_arrival(goal: &Goal<'_>, side: Side) -> Arrival
+pub(crate) fn goal_arrival(goal: &Goal<'_>, side: Side) -> Mark
     ensures { result ≡ stop_mark side goal.now }
 {
     match side {
@@ -42,7 +41,7 @@ pub(crate) fn goal_arrival(goal: &Goal<'_>, side: Side) -> Arrival
 }
 
 // Adds the stops of a side at some goals.
-fn add_stops(marks: &mut Vec<Arrival>, goals: &[Goal<'_>], side: Side) -> Result<(), AllocError>
+fn add_stops(marks: &mut Vec<Mark>, goals: &[Goal<'_>], side: Side) -> Result<(), AllocError>
     ensures { OnOk result (marks.new.items ≡ marks.old.items ++ map (stop_mark side) goals.now) }
 {
     for i in 0..goals.len() {
@@ -52,12 +51,12 @@ fn add_stops(marks: &mut Vec<Arrival>, goals: &[Goal<'_>], side: Side) -> Result
 }
 
 // Adds the first arrival at a hold's node, if that is a stop.
-fn add_hold(marks: &mut Vec<Arrival>, change: Change) -> Result<(), AllocError>
+fn add_hold(marks: &mut Vec<Mark>, change: Change) -> Result<(), AllocError>
     ensures { OnOk result (marks.new.items ≡ marks.old.items ++ stops_with change []) }
 {
     match change {
         Change::Holding(node) => {
-            attempt!(marks.push(Arrival { node, count: 1 }), AllocError);
+            attempt!(marks.push(Mark { node, count: 1 }), AllocError);
             Ok(())
         }
         Change::Plain | Change::Restricting(_) => Ok(()),
@@ -70,7 +69,7 @@ pub(crate) fn stops_of(
     goals: &[Goal<'_>],
     side: Side,
     change: Change,
-) -> Result<Vec<Arrival>, AllocError>
+) -> Result<Vec<Mark>, AllocError>
     ensures { IfOk result (λ stops. stops.items
         ≡ stops_with change (map (stop_mark side) goals.now)) }
 {
@@ -81,7 +80,7 @@ pub(crate) fn stops_of(
 }
 
 // Adds some bounds.
-fn add_bounds(marks: &mut Vec<Arrival>, bounds: &[Mark]) -> Result<(), AllocError>
+fn add_bounds(marks: &mut Vec<Mark>, bounds: &[Mark]) -> Result<(), AllocError>
     ensures { OnOk result (marks.new.items ≡ marks.old.items ++ map bound_of bounds.now) }
 {
     for i in 0..bounds.len() {
@@ -91,7 +90,7 @@ fn add_bounds(marks: &mut Vec<Arrival>, bounds: &[Mark]) -> Result<(), AllocErro
 }
 
 // Adds the bound of a restriction, if there is one.
-fn add_restriction(marks: &mut Vec<Arrival>, change: Change) -> Result<(), AllocError>
+fn add_restriction(marks: &mut Vec<Mark>, change: Change) -> Result<(), AllocError>
     ensures { OnOk result (marks.new.items ≡ bounds_with change marks.old.items) }
 {
     match change {
@@ -108,7 +107,7 @@ pub(crate) fn bounds_of(
     alloc: Global,
     bounds: &[Mark],
     change: Change,
-) -> Result<Vec<Arrival>, AllocError>
+) -> Result<Vec<Mark>, AllocError>
     ensures { IfOk result (λ marks. marks.items
         ≡ bounds_with change (map bound_of bounds.now)) }
 {

@@ -3,9 +3,9 @@
 ghost use Rattle.std.specs.Prelude.{◌≡◌};
 ghost use Rattle.sim_rules.specs.Plans.{plan_for};
 
-use crate::side::Side;
+use graph_core_spec::Mark;
 use proof_tree::Hold;
-use proof_tree_spec::Mark;
+use sim_rules_spec::Side;
 
 /// A rule whose obligations are of both sides' walks.
 #[derive(Clone, Copy)]

@@ -15,9 +15,9 @@ ghost use Rattle.sim_rules.specs.Stops.{ArePartsIn, CanMeet, IsMeeting, IsMet, b
 ghost use Rattle.sim_rules.specs.Stops.{goal_stop, shown_term, source_visits, stop_at};
 
 use crate::marks::goal_arrival;
-use crate::side::Side;
 use attempt::attempt;
 use proof_tree::Goal;
+use sim_rules_spec::Side;
 use sim_rules_terms::{Part, Sight, Which, both, either, implication, relation, truth};
 use std::alloc::{AllocError, Global};
 use term_bank::{Bank, TermId};

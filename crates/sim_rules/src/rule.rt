@@ -19,8 +19,9 @@ use crate::fault::RuleFault;
 use crate::plan::Walking;
 use crate::setup::Setup;
 use crate::whole::whole;
+use attempt::Refusal;
+use graph_core_spec::Mark;
 use proof_tree::{Hold, Setting, is_line};
-use proof_tree_spec::Mark;
 use sim_rules_terms::first_bad;
 use std::alloc::Global;
 use term_bank::{Bank, TermId};
@@ -60,14 +61,14 @@ fn nothing(
     setting: &Setting,
     path: &[u32],
     lines: &[Box<Term>],
-) -> Result<Vec<TermId>, RuleFault>
+) -> Result<Vec<TermId>, Refusal<RuleFault>>
     ensures lines { OnOk result (AreLines (setting_of setting.now) path.now (terms_of lines.now)) }
     ensures terms { IfOk result (λ ids. ids.items ≡ []) }
     ensures fault { IfErr result (IsLineFault (setting_of setting.now) path.now
         (terms_of lines.now)) }
 {
     match first_bad(setting, path, lines) {
-        Some(index) => Err(RuleFault::Sort(index)),
+        Some(index) => Err(Refusal::Fault(RuleFault::Sort(index))),
         None => Ok(Vec::new(alloc)),
     }
 }
@@ -78,7 +79,7 @@ fn nothing_by(
     setting: &Setting,
     path: &[u32],
     test: &Term,
-) -> Result<Vec<TermId>, RuleFault>
+) -> Result<Vec<TermId>, Refusal<RuleFault>>
     ensures lines { OnOk result (AreLines (setting_of setting.now) path.now
         (term_of test.now ∷ [])) }
     ensures terms { IfOk result (λ ids. ids.items ≡ []) }
@@ -88,7 +89,7 @@ fn nothing_by(
     if is_line(setting, path, test) {
         Ok(Vec::new(alloc))
     } else {
-        Err(RuleFault::Sort(0))
+        Err(Refusal::Fault(RuleFault::Sort(0)))
     }
 }
 
@@ -112,7 +113,7 @@ fn answer(
     setup: &Setup<'_>,
     rule: Rule<'_>,
     bank: &mut Bank,
-) -> Result<Vec<TermId>, RuleFault>
+) -> Result<Vec<TermId>, Refusal<RuleFault>>
     requires { IsOpeningIn (length bank.old) setup.now.opening }
     ensures answer { IsAnswer bank.old bank.new setup.now (rule_of rule.entry) result }
     ensures extends { Extends bank.old bank.new }
@@ -133,7 +134,7 @@ pub fn obligations(
     setup: &Setup<'_>,
     rule: Rule<'_>,
     bank: &mut Bank,
-) -> Result<Vec<TermId>, RuleFault>
+) -> Result<Vec<TermId>, Refusal<RuleFault>>
     requires { IsOpeningIn (length bank.old) setup.now.opening }
     ensures terms { (c : points.Convention) (o : rules.Opening) → IsSetup bank.old c o setup.now
         → IfOk result (λ ids. AreObligations bank.new c o (frame_of setup.now.frame.now)

@@ -4,17 +4,9 @@ ghost use Rattle.sim_rules.specs.Sides.{IsOneSide};
 
 use crate::setup::Setup;
 use graph_core::GraphRun;
-use proof_tree_spec::Mark;
+use graph_core_spec::Mark;
+use sim_rules_spec::Side;
 use sim_rules_terms::Known;
-
-/// Which side.
-#[derive(Clone, Copy)]
-pub(crate) enum Side {
-    /// the binary
-    Binary,
-    /// the source
-    Source,
-}
 
 /// A side of a frame.
 #[derive(Clone, Copy)]

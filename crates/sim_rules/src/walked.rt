@@ -9,7 +9,7 @@ ghost use Rattle.sim_rules_terms.specs.Ways.{IsWay};
 ghost use Rattle.sim_rules.specs.Faults.{IsOutcome};
 ghost use Rattle.sim_rules.specs.Walks.{AreFoundIf, IsWalked, seen_by};
 
-use attempt::attempt;
+use attempt::{Refusal, attempt};
 use path_cond::Conditions;
 use sim_rules_terms::{Sight, Way, conditions_of};
 use std::alloc::{AllocError, Global};
@@ -22,7 +22,7 @@ pub(crate) struct Walked<'a> {
     /// The walk.
     pub way: &'a Way<'a>,
     /// Its visits.
-    pub visits: &'a Result<Visits, WalkFault>,
+    pub visits: &'a Result<Visits, Refusal<WalkFault>>,
 }
 
 /// The conditions and the states of a walk's visits, where there is a list of them.
@@ -48,7 +48,7 @@ pub(crate) fn conditions_if(
 /// A side's visits with their conditions and states, where there is a list of them.
 pub(crate) fn sight_if<'a>(
     way: &'a Way<'a>,
-    visits: &'a Result<Visits, WalkFault>,
+    visits: &'a Result<Visits, Refusal<WalkFault>>,
     found: &'a Option<Conditions>,
 ) -> Option<Sight<'a>>
     ensures { (trees : List tree.Term) (w : sides.Way) (maximum : ℕ) → IsWay trees w way.now

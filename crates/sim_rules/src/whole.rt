@@ -25,12 +25,12 @@ ghost use Rattle.sim_rules.specs.Walks.{AreOfWays, IsWalked, seen_by};
 use crate::fault::{RuleFault, first_fault, walk_fault};
 use crate::plan::{Walking, plan_of};
 use crate::setup::Setup;
-use crate::side::Side;
 use crate::terms::add_terms;
 use crate::walked::{Walked, conditions_if, sight_if};
 use crate::ways::way;
-use attempt::attempt;
+use attempt::{Refusal, attempt};
 use graph_core::Graph;
+use sim_rules_spec::Side;
 use sim_rules_terms::{Sight, Way};
 use std::alloc::{AllocError, Global};
 use term_bank::{Bank, TermId};
@@ -96,7 +96,7 @@ fn add_if_walked(
     binary: &Walked<'_>,
     source: &Walked<'_>,
     ids: &mut Vec<TermId>,
-) -> Result<(), RuleFault>
+) -> Result<(), Refusal<RuleFault>>
     requires opening { IsOpeningIn (length bank.old) setup.now.opening }
     requires binary { (w : sides.Way) × IsWalked bank.old w binary.now }
     requires source { (w : sides.Way) × IsWalked bank.old w source.now }
@@ -121,7 +121,7 @@ fn add_if_walked(
         None => {
             attempt!(
                 add_of_walks(alloc, bank, setup, rule, binary, source, ids),
-                RuleFault::NoMemory
+                Refusal::NoMemory
             );
             Ok(())
         }
@@ -137,7 +137,7 @@ fn add_of_ways(
     binary: &Way<'_>,
     source: &Way<'_>,
     ids: &mut Vec<TermId>,
-) -> Result<(), RuleFault>
+) -> Result<(), Refusal<RuleFault>>
     requires opening { IsOpeningIn (length bank.old) setup.now.opening }
     requires binary { (w : sides.Way) × IsWay bank.old w binary.now }
     requires source { (w : sides.Way) × IsWay bank.old w source.now }
@@ -172,7 +172,7 @@ fn add_whole(
     rule: &Walking<'_>,
     empty: &Graph,
     ids: &mut Vec<TermId>,
-) -> Result<(), RuleFault>
+) -> Result<(), Refusal<RuleFault>>
     requires opening { IsOpeningIn (length bank.old) setup.now.opening }
     requires empty { graph_of empty.now ≡ nodes.empty }
     requires ids { ids.old.items ≡ [] }
@@ -187,11 +187,11 @@ fn add_whole(
     let plan = plan_of(rule);
     let binary = attempt!(
         way(alloc, setup, Side::Binary, plan.binary, empty),
-        RuleFault::NoMemory
+        Refusal::NoMemory
     );
     let source = attempt!(
         way(alloc, setup, Side::Source, plan.source, empty),
-        RuleFault::NoMemory
+        Refusal::NoMemory
     );
     add_of_ways(alloc, bank, setup, rule, &binary, &source, ids)
 }
@@ -202,7 +202,7 @@ pub(crate) fn whole(
     bank: &mut Bank,
     setup: &Setup<'_>,
     rule: &Walking<'_>,
-) -> Result<Vec<TermId>, RuleFault>
+) -> Result<Vec<TermId>, Refusal<RuleFault>>
     requires { IsOpeningIn (length bank.old) setup.now.opening }
     ensures terms { (c : points.Convention) (o : rules.Opening) → IsSetup bank.old c o setup.now
         → IfOk result (λ ids. AreObligations bank.new c o (frame_of setup.now.frame.now)

@@ -12,7 +12,7 @@ use Rattle.term_core_spec.proofs.Same.{variable-same}
 use Rattle.term_core_spec.proofs.Soundness.{value-sort}
 use Rattle.term_core_spec.proofs.Sorts.{as_truth}
 use Rattle.term_core_spec.proofs.Variables.{value-occurs}
-use Rattle.graph_core_spec.specs.TransitionSystem.{Mark}
+use Rattle.graph_core_spec.specs.declared.Mark.{Mark}
 use Rattle.graph_core_spec.specs.Simulation.{Frame, IsStart, Agree, EndsAlike, both_return, both_arrive, IsHeld, held}
 use Rattle.graph_core_spec.specs.Run.{Waiting, State, Running, Returned, Failed, is_shared, is_truth, unset}
 use Rattle.graph_core_spec.specs.Sorts.{AreWaiting, IsState}

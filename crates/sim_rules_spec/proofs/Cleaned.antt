@@ -12,7 +12,8 @@ use Rattle.term_core_spec.specs.Term.{Term}
 use Rattle.term_core_spec.specs.Value.{Value, Assignment, value}
 use Rattle.term_core_spec.proofs.Same.{variable-same}
 use Rattle.term_core_spec.proofs.Variables.{value-occurs}
-use Rattle.graph_core_spec.specs.TransitionSystem.{Mark, after, arrivals, tick, reached, stopped}
+use Rattle.graph_core_spec.specs.TransitionSystem.{after, arrivals, tick, reached, stopped}
+use Rattle.graph_core_spec.specs.declared.Mark.{Mark}
 use Rattle.graph_core_spec.specs.declared.Next.{Next}
 use Rattle.graph_core_spec.specs.declared.Next.TheVariants as next
 use Rattle.graph_core_spec.specs.Graph.{Binding, Node, Basic, Cond, Call, Graph, Graphs, node_at}

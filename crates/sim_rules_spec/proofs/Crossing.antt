@@ -3,7 +3,8 @@ use Rattle.std.proofs.Common.{◌≡◌, ◌∙◌, ◌⊎◌, ℕ, ◌+◌, ◌
 use Rattle.std.specs.Prelude.{nat_le, is_some}
 use Rattle.std.proofs.lemmas.Bool.{cases_Bool, cases_lt, both_ways, false≢true, or_right}
 use Rattle.term_core_spec.specs.Value.{Assignment}
-use Rattle.graph_core_spec.specs.TransitionSystem.{TransitionSystem, Mark, after, arrivals, tick, stopped, reached, StopsAt}
+use Rattle.graph_core_spec.specs.TransitionSystem.{TransitionSystem, after, arrivals, tick, stopped, reached, StopsAt}
+use Rattle.graph_core_spec.specs.declared.Mark.{Mark}
 use Rattle.graph_core_spec.specs.Simulation as systems
 use Rattle.graph_core_spec.specs.Simulation.{IsStart, Agree, EndsAlike, both_arrive, IsRelated, Simulates}
 use Rattle.graph_core_spec.proofs.Runs.{after-suc, arrivals-add, stopped_on, stops_once}

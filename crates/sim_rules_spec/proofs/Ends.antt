@@ -10,7 +10,7 @@ use Rattle.graph_core_spec.specs.declared.Next.{Next}
 use Rattle.graph_core_spec.specs.declared.Next.TheVariants as next
 use Rattle.graph_core_spec.specs.Graph.{Graph, Graphs}
 use Rattle.graph_core_spec.specs.Run.{State, Running, system_of, has_failed}
-use Rattle.visit_walk_spec.specs.declared.Mark.{Mark}
+use Rattle.graph_core_spec.specs.declared.Mark.{Mark}
 use Rattle.visit_walk_spec.specs.declared.Successors.{Successors}
 use Rattle.visit_walk_spec.specs.declared.Successors.TheVariants.{One, Two, Callee, Nothing}
 use Rattle.visit_walk_spec.specs.Shape.{successors_at}

@@ -7,14 +7,13 @@ use Rattle.std.proofs.lemmas.List.Elements.{All-weaker}
 use Rattle.std.proofs.lemmas.Option.{same_Some}
 use Rattle.term_core_spec.specs.Term.{Term}
 use Rattle.term_core_spec.specs.Value.{Assignment, IsAssignment}
-use Rattle.graph_core_spec.specs.TransitionSystem as walk
 use Rattle.graph_core_spec.specs.Simulation as systems
 use Rattle.graph_core_spec.specs.declared.Next.{Next}
 use Rattle.graph_core_spec.specs.declared.Next.TheVariants as next
 use Rattle.graph_core_spec.specs.Graph.{Node, Basic, Cond, Call, Graph}
 use Rattle.graph_core_spec.specs.Run.{State, Running, Returned, Failed, step, has_returned}
 use Rattle.graph_core_spec.specs.Fixed.{has_byte}
-use Rattle.visit_walk_spec.specs.declared.Mark.{Mark}
+use Rattle.graph_core_spec.specs.declared.Mark.{Mark}
 use Rattle.visit_walk_spec.specs.declared.Successors.TheVariants.{One, Nothing}
 use Rattle.visit_walk_spec.specs.Shape.{successors_of}
 use Rattle.visit_walk_spec.specs.Visits.{is_full, is_last}
@@ -60,13 +59,13 @@ not_failed_stop next.Err ms counts h = absurd (both_ways (is_last next.Err ms co
 
 -- ---- goals, by index
 
-module _ (c : Convention) (side : Goal → walk.Mark) (side_over : systems.Goal State State → walk.Mark) (same : (g : Goal) → side_over (goal_over c g) ≡ side g) where
+module _ (c : Convention) (side : Goal → Mark) (side_over : systems.Goal State State → Mark) (same : (g : Goal) → side_over (goal_over c g) ≡ side g) where
   abbrev pub visit_marks : List Goal → List Mark
   visit_marks goals = map visit_mark (map side goals)
 
   pub marks_are : (goals : List Goal) → map mark_of (visit_marks goals) ≡ map side_over (map (goal_over c) goals)
   marks_are [] = refl
-  marks_are (g ∷ goals) = ap₂ (λ (m : walk.Mark) (ms : List walk.Mark). m ∷ ms) (sym (same g)) (marks_are goals)
+  marks_are (g ∷ goals) = ap₂ (λ (m : Mark) (ms : List Mark). m ∷ ms) (sym (same g)) (marks_are goals)
 
   pub mark_at : (goals : List Goal) (i : ℕ) (g : Goal) → slice_get goals i ≡ Some g → slice_get (visit_marks goals) i ≡ Some (visit_mark (side g))
   mark_at [] i g e = absurd (cc)
@@ -128,10 +127,10 @@ each_true c a sorted fixed premises goals valid held =
     (all_mapped (IsTrueWith c) (under premises) goals valid)
 
 -- the marks of a list, as those of a walk
-pub mark_in : (ms : List walk.Mark) (k : ℕ) (b : walk.Mark) → slice_get ms k ≡ Some b → slice_get (map visit_mark ms) k ≡ Some (visit_mark b)
+pub mark_in : (ms : List Mark) (k : ℕ) (b : Mark) → slice_get ms k ≡ Some b → slice_get (map visit_mark ms) k ≡ Some (visit_mark b)
 mark_in [] k b e = absurd (cc)
-mark_in (m ∷ ms) zero b e = ap (λ (n : walk.Mark). Some (visit_mark n)) (same_Some m b e)
+mark_in (m ∷ ms) zero b e = ap (λ (n : Mark). Some (visit_mark n)) (same_Some m b e)
 mark_in (m ∷ ms) (suc k) b e = mark_in ms k b e
 
-pub front_marks : (ms : List walk.Mark) (k : ℕ) (b : walk.Mark) → slice_get ms k ≡ Some b → slice_get (map visit_mark ms) (0 + k) ≡ Some (visit_mark b)
+pub front_marks : (ms : List Mark) (k : ℕ) (b : Mark) → slice_get ms k ≡ Some b → slice_get (map visit_mark ms) (0 + k) ≡ Some (visit_mark b)
 front_marks ms k b e = let same : 0 + k ≡ k = omega arith in ap (slice_get (map visit_mark ms)) same ∙ mark_in ms k b e

@@ -14,7 +14,7 @@ use Rattle.graph_core_spec.specs.Simulation as systems
 use Rattle.graph_core_spec.specs.Simulation.{IsStart, Agree, EndsAlike, both_return, both_arrive, IsRelated}
 use Rattle.graph_core_spec.proofs.Runs.{stopped_on, stops_once}
 use Rattle.graph_core_spec.specs.Run.{State, Running, is_truth, system_of}
-use Rattle.visit_walk_spec.specs.declared.Mark.{Mark}
+use Rattle.graph_core_spec.specs.declared.Mark.{Mark}
 use Rattle.visit_walk_spec.specs.Shape.{shape_of}
 use Rattle.visit_walk_spec.specs.Visits.{Visit, marks, edges, is_full, is_stop, is_bounded}
 use Rattle.visit_walk_spec.specs.Outcomes.{AreVisits}
@@ -129,11 +129,11 @@ module _ (c : Convention) (f : Frame) (o : Opening) (proper : IsProper f) (opens
           by (at_cut n at_n h no_stop no_bound) = absurd (never_nothing (graph_at f.binary).nodes n h)
 
       ends_x : StopsAt of_x (systems.binary_marks here_frame) seen_x.moment at_x
-      ends_x = subst (λ (ms : List walk.Mark). StopsAt of_x ms seen_x.moment at_x) (binary_marks_are c f o proper opens first_x first_y)
+      ends_x = subst (λ (ms : List Mark). StopsAt of_x ms seen_x.moment at_x) (binary_marks_are c f o proper opens first_x first_y)
           (record { now = seen_x.stops ∙ stops_at_x; before = λ k less. (seen_x.before k less).runs })
 
       ends_y : StopsAt of_y (systems.source_marks here_frame) seen_y.moment at_y
-      ends_y = subst (λ (ms : List walk.Mark). StopsAt of_y ms seen_y.moment at_y) (source_marks_are c f o proper opens first_x first_y)
+      ends_y = subst (λ (ms : List Mark). StopsAt of_y ms seen_y.moment at_y) (source_marks_are c f o proper opens first_x first_y)
           (record { now = seen_y.stops ∙ stops_at_y; before = λ k less. (seen_y.before k less).runs })
 
       -- where the source is at a stop the binary is, and what holds there holds

@@ -21,3 +21,4 @@ pub mod Returned
 pub mod Crossing
 pub mod Called
 pub mod AnyZone
+pub mod OnSides

@@ -12,7 +12,7 @@ use Rattle.graph_core_spec.specs.declared.Next.TheVariants as next
 use Rattle.graph_core_spec.specs.Graph.{Graph, Graphs}
 use Rattle.graph_core_spec.specs.Run.{system_of}
 use Rattle.graph_core_spec.specs.TransitionSystem.{after}
-use Rattle.visit_walk_spec.specs.declared.Mark.{Mark}
+use Rattle.graph_core_spec.specs.declared.Mark.{Mark}
 use Rattle.visit_walk_spec.specs.Visits.{Walk, Visit, marks, edges, is_full, is_last}
 use Rattle.path_cond_spec.specs.Junctions.{junctions}
 use Rattle.path_cond_spec.specs.Conditions.{Conditional, conditionals, conditional_of}

@@ -12,7 +12,7 @@ use Rattle.graph_core_spec.specs.Simulation as systems
 use Rattle.graph_core_spec.specs.Simulation.{IsStart, IsRelated}
 use Rattle.graph_core_spec.specs.Run.{State, Running, has_failed, system_of, Failed}
 use Rattle.graph_core_spec.specs.Fixed.{has_byte, holds_byte}
-use Rattle.visit_walk_spec.specs.declared.Mark.{Mark}
+use Rattle.graph_core_spec.specs.declared.Mark.{Mark}
 use Rattle.visit_walk_spec.specs.Shape.{Shape}
 use Rattle.visit_walk_spec.specs.Visits.{Visit}
 use Rattle.visit_walk_spec.specs.Outcomes.{AreVisits}
@@ -91,11 +91,11 @@ module _ (c : Convention) (f : Frame) (o : Opening) (proper : IsProper f) (opens
         (λ at. (and_parts (holds_byte (bounded c.fixed) source_memory at y) (has_failed y || all_hold (source_zone c) at Failed y) (start.source_fine.held 0 at)).0)
 
     -- until it stops each run keeps the bounds
-    pub kept_x : (k : ℕ) → stopped run_x (map mark_of stops_x) k x ≡ false → All (λ (b : walk.Mark). arrivals run_x b.node k x < b.count) f.start.binary_bounds
-    kept_x k runs = start.binary_kept k k (omega arith) (subst (λ (ms : List walk.Mark). stopped run_x ms k x ≡ false) binary_marks_are runs)
+    pub kept_x : (k : ℕ) → stopped run_x (map mark_of stops_x) k x ≡ false → All (λ (b : Mark). arrivals run_x b.node k x < b.count) f.start.binary_bounds
+    kept_x k runs = start.binary_kept k k (omega arith) (subst (λ (ms : List Mark). stopped run_x ms k x ≡ false) binary_marks_are runs)
 
-    pub kept_y : (k : ℕ) → stopped run_y (map mark_of stops_y) k y ≡ false → All (λ (b : walk.Mark). arrivals run_y b.node k y < b.count) f.start.source_bounds
-    kept_y k runs = start.source_kept k k (omega arith) (subst (λ (ms : List walk.Mark). stopped run_y ms k y ≡ false) source_marks_are runs)
+    pub kept_y : (k : ℕ) → stopped run_y (map mark_of stops_y) k y ≡ false → All (λ (b : Mark). arrivals run_y b.node k y < b.count) f.start.source_bounds
+    kept_y k runs = start.source_kept k k (omega arith) (subst (λ (ms : List Mark). stopped run_y ms k y ≡ false) source_marks_are runs)
 
     module _ (at : ℕ) where
       abbrev pub a : Assignment
@@ -125,7 +125,7 @@ module _ (c : Convention) (f : Frame) (o : Opening) (proper : IsProper f) (opens
       alive_source shape bounds visits seen = elim (cases_Bool (is_failure seen.visit.place)) [
         | inl fails_there ↦
             let runs : stopped run_y (map mark_of stops_y) seen.moment y ≡ false = seen.stops ∙ not_last_failed seen.visit.place fails_there stops_y seen.visit.counts in
-            let safe = start.source_safe seen.moment seen.moment (omega arith) (subst (λ (ms : List walk.Mark). stopped run_y ms seen.moment y ≡ false) source_marks_are runs) in
+            let safe = start.source_safe seen.moment seen.moment (omega arith) (subst (λ (ms : List Mark). stopped run_y ms seen.moment y ≡ false) source_marks_are runs) in
             absurd (both_ways (is_failure seen.visit.place) (sym seen.failing ∙ safe) fails_there)
         | inr alive ↦ alive
       ]
@@ -134,14 +134,14 @@ module _ (c : Convention) (f : Frame) (o : Opening) (proper : IsProper f) (opens
 
       pub unbroken_x : (shape : Shape) (bounds : List Mark) (visits : List Visit) → AreCounted bounds
           → (seen : Watched f.binary.graphs f.binary.outermost is_binary (way_x shape bounds) visits a x)
-          → ((k : ℕ) (b : walk.Mark) → slice_get f.start.binary_bounds k ≡ Some b → slice_get bounds (0 + k) ≡ Some (visit_mark b))
+          → ((k : ℕ) (b : Mark) → slice_get f.start.binary_bounds k ≡ Some b → slice_get bounds (0 + k) ≡ Some (visit_mark b))
           → All (IsTrue a) (unbroken (way_x shape bounds) visits 0 f.start.binary_bounds)
       unbroken_x shape bounds visits counted seen front =
           all_unbroken f.binary.graphs f.binary.outermost is_binary (way_x shape bounds) visits a x (counted_x bounds counted) seen f.start.binary_bounds 0 (kept_x seen.moment) front
 
       pub unbroken_y : (shape : Shape) (bounds : List Mark) (visits : List Visit) → AreCounted bounds
           → (seen : Watched f.source.graphs f.source.outermost is_source (way_y shape bounds) visits a y)
-          → ((k : ℕ) (b : walk.Mark) → slice_get f.start.source_bounds k ≡ Some b → slice_get bounds (0 + k) ≡ Some (visit_mark b))
+          → ((k : ℕ) (b : Mark) → slice_get f.start.source_bounds k ≡ Some b → slice_get bounds (0 + k) ≡ Some (visit_mark b))
           → All (IsTrue a) (unbroken (way_y shape bounds) visits 0 f.start.source_bounds)
       unbroken_y shape bounds visits counted seen front =
           all_unbroken f.source.graphs f.source.outermost is_source (way_y shape bounds) visits a y (counted_y bounds counted) seen f.start.source_bounds 0 (kept_y seen.moment) front

@@ -6,12 +6,11 @@ use Rattle.std.proofs.lemmas.Bool.{false_from_ne_true}
 use Rattle.std.proofs.lemmas.List.Elements.{All-push, All-nil, All-cons, All-head, All-map, All-append}
 use Rattle.term_core_spec.specs.Term.{Term}
 use Rattle.term_core_spec.specs.Value.{Assignment, Truth}
-use Rattle.graph_core_spec.specs.TransitionSystem as walk
 use Rattle.graph_core_spec.specs.TransitionSystem.{arrivals, stopped}
 use Rattle.graph_core_spec.specs.Simulation as systems
 use Rattle.graph_core_spec.specs.Simulation.{IsStart}
 use Rattle.graph_core_spec.specs.Run.{State, Running, system_of}
-use Rattle.visit_walk_spec.specs.declared.Mark.{Mark}
+use Rattle.graph_core_spec.specs.declared.Mark.{Mark}
 use Rattle.visit_walk_spec.specs.Shape.{shape_of}
 use Rattle.visit_walk_spec.specs.Visits.{Visit}
 use Rattle.path_cond_spec.specs.Runs.{AreCounted}
@@ -29,7 +28,7 @@ use Rattle.sim_rules_spec.proofs.Start.{graph_is, broken_ends, get_front, runnin
 use Rattle.sim_rules_spec.proofs.Case.{as_other}
 use Rattle.sim_rules_spec.proofs.Restricted.{cut_shape, keeps}
 
-module _ (c : Convention) (f : Frame) (o : Opening) (proper : IsProper f) (opens : Opens c f o) (bound : walk.Mark) (counts : 1 ≤ bound.count)
+module _ (c : Convention) (f : Frame) (o : Opening) (proper : IsProper f) (opens : Opens c f o) (bound : Mark) (counts : 1 ≤ bound.count)
     (first_x first_y : Assignment) where
   abbrev at_x : State
   at_x = Running f.binary.outermost f.start.nodes.binary first_x []
@@ -48,10 +47,10 @@ module _ (c : Convention) (f : Frame) (o : Opening) (proper : IsProper f) (opens
       All-append (λ (m : Mark). 1 ≤ m.count) bounds (visit_mark bound ∷ []) counted
       (All-cons (λ (m : Mark). 1 ≤ m.count) (visit_mark bound) [] counts (All-nil (λ (m : Mark). 1 ≤ m.count)))
 
-  front_with : (ms : List walk.Mark) (k : ℕ) (b : walk.Mark) → slice_get ms k ≡ Some b → slice_get (map visit_mark ms ++ visit_mark bound ∷ []) (0 + k) ≡ Some (visit_mark b)
+  front_with : (ms : List Mark) (k : ℕ) (b : Mark) → slice_get ms k ≡ Some b → slice_get (map visit_mark ms ++ visit_mark bound ∷ []) (0 + k) ≡ Some (visit_mark b)
   front_with ms k b e = get_front (map visit_mark ms) (visit_mark bound ∷ []) (0 + k) (visit_mark b) (front_marks ms k b e)
 
-  last_in : (ms : List walk.Mark) → slice_get (map visit_mark ms ++ visit_mark bound ∷ []) (length ms) ≡ Some (visit_mark bound)
+  last_in : (ms : List Mark) → slice_get (map visit_mark ms ++ visit_mark bound ∷ []) (length ms) ≡ Some (visit_mark bound)
   last_in [] = refl
   last_in (m ∷ ms) = last_in ms
 
@@ -113,7 +112,7 @@ module _ (c : Convention) (f : Frame) (o : Opening) (proper : IsProper f) (opens
           keeps f.binary is_binary way are.binary values at_x seen f.start.binary_bounds bound
           (graph_is f.binary is_binary proper.binary start.binary_fine.kept.valid) are.cut counts refl
           (kept_x c f o proper opens first_x first_y start) free k
-          (subst (λ (ms : List walk.Mark). stopped (system_of f.binary.graphs f.binary.outermost) ms k at_x ≡ false) (sym (binary_marks_are c f o proper opens first_x first_y)) runs)
+          (subst (λ (ms : List Mark). stopped (system_of f.binary.graphs f.binary.outermost) ms k at_x ≡ false) (sym (binary_marks_are c f o proper opens first_x first_y)) runs)
 
       source_keeps : AreOfSourceRestrict o f bound terms → (k : ℕ)
           → stopped (system_of f.source.graphs f.source.outermost) (systems.source_marks (frame_over c o.known f)) k at_y ≡ false
@@ -135,11 +134,11 @@ module _ (c : Convention) (f : Frame) (o : Opening) (proper : IsProper f) (opens
           keeps f.source is_source way are.source values at_y seen f.start.source_bounds bound
           (graph_is f.source is_source proper.source start.source_fine.kept.valid) are.cut counts refl
           (kept_y c f o proper opens first_x first_y start) free k
-          (subst (λ (ms : List walk.Mark). stopped (system_of f.source.graphs f.source.outermost) ms k at_y ≡ false) (sym (source_marks_are c f o proper opens first_x first_y)) runs)
+          (subst (λ (ms : List Mark). stopped (system_of f.source.graphs f.source.outermost) ms k at_y ≡ false) (sym (source_marks_are c f o proper opens first_x first_y)) runs)
 
 -- ---- the laws
 
-module _ (c : Convention) (f : Frame) (o : Opening) (bound : walk.Mark) (terms : List Term) (proper : IsProper f) (opens : Opens c f o) (counts : 1 ≤ bound.count)
+module _ (c : Convention) (f : Frame) (o : Opening) (bound : Mark) (terms : List Term) (proper : IsProper f) (opens : Opens c f o) (counts : 1 ≤ bound.count)
     (valid : AreTrueWith c terms) where
   abbrev over : systems.Frame State State
   over = frame_over c o.known f
@@ -180,7 +179,7 @@ module _ (c : Convention) (f : Frame) (o : Opening) (bound : walk.Mark) (terms :
         binary_fine = start.binary_fine;
         source_fine = start.source_fine;
         binary_kept = λ m k within runs.
-            All-push (λ (b : walk.Mark). arrivals over.binary b.node k x < b.count) f.start.binary_bounds bound (start.binary_kept m k within runs) (new k runs);
+            All-push (λ (b : Mark). arrivals over.binary b.node k x < b.count) f.start.binary_bounds bound (start.binary_kept m k within runs) (new k runs);
         source_kept = start.source_kept;
         source_safe = start.source_safe;
       }) n)
@@ -200,6 +199,6 @@ module _ (c : Convention) (f : Frame) (o : Opening) (bound : walk.Mark) (terms :
         source_fine = start.source_fine;
         binary_kept = start.binary_kept;
         source_kept = λ m k within runs.
-            All-push (λ (b : walk.Mark). arrivals over.source b.node k y < b.count) f.start.source_bounds bound (start.source_kept m k within runs) (new k runs);
+            All-push (λ (b : Mark). arrivals over.source b.node k y < b.count) f.start.source_bounds bound (start.source_kept m k within runs) (new k runs);
         source_safe = start.source_safe;
       }) n)

@@ -19,7 +19,7 @@ use Rattle.graph_core_spec.specs.Run.{State, is_at, has_failed, system_of}
 use Rattle.graph_core_spec.specs.Sorts.{IsSorted}
 use Rattle.graph_core_spec.proofs.Sorts.{stays_sorted}
 use Rattle.graph_core_spec.proofs.Walks.{is_system, led}
-use Rattle.visit_walk_spec.specs.declared.Mark.{Mark}
+use Rattle.graph_core_spec.specs.declared.Mark.{Mark}
 use Rattle.visit_walk_spec.specs.declared.Successors.{Successors}
 use Rattle.visit_walk_spec.specs.declared.Successors.TheVariants.{One, Nothing}
 use Rattle.visit_walk_spec.specs.Shape.{Shape, shape_of, successors_of, successors_at}
@@ -67,7 +67,7 @@ module _ (graphs : Graphs) (outermost : ℕ) where
       arrivals-suc graphs outermost n k s ∙ ap₂ (λ (b : Bool) (c : ℕ). tick run b c) (away k) (never_there n k s away)
 
   -- where arrivals first are as many as a mark counts, the run is at its node
-  first_there : (m : walk.Mark) (t : ℕ) (s : State) → 1 ≤ m.count → ((k : ℕ) → k < t → arrivals run m.node k s < m.count) → m.count ≤ arrivals run m.node t s
+  first_there : (m : Mark) (t : ℕ) (s : State) → 1 ≤ m.count → ((k : ℕ) → k < t → arrivals run m.node k s < m.count) → m.count ≤ arrivals run m.node t s
       → is_at graphs outermost m.node (after run t s) ≡ true
   first_there m zero s some few enough = absurd (omega (arith, some, enough, arrivals-zero graphs outermost m.node s))
   first_there m (suc t) s some few enough = elim (cases_Bool (is_at graphs outermost m.node (after run (suc t) s))) [
@@ -85,16 +85,16 @@ module _ (graphs : Graphs) (outermost : ℕ) where
 -- ---- the run of a restricted side
 
 module _ (side : Side) (own : Family → Bool) (w : Way) (visits : List Visit) (a : Assignment) (x : State)
-    (seen : Watched side.graphs side.outermost own w visits a x) (bounds : List walk.Mark) (bound : walk.Mark)
+    (seen : Watched side.graphs side.outermost own w visits a x) (bounds : List Mark) (bound : Mark)
     (there : slice_get side.graphs side.outermost ≡ Some (graph_at side)) (cut : IsCutTo side bound.node w.walk.shape) (counts : 1 ≤ bound.count)
     (bounds_are : w.walk.bounds ≡ map visit_mark bounds ++ visit_mark bound ∷ [])
     (kept : (k : ℕ) → stopped (system_of side.graphs side.outermost) (map mark_of w.walk.stops) k x ≡ false
-    → All (λ (b : walk.Mark). arrivals (system_of side.graphs side.outermost) b.node k x < b.count) bounds)
+    → All (λ (b : Mark). arrivals (system_of side.graphs side.outermost) b.node k x < b.count) bounds)
     (excluded : breaks w.walk (visit_mark bound) (length bounds) seen.visit ≡ false) where
   abbrev system : walk.TransitionSystem State
   system = system_of side.graphs side.outermost
 
-  abbrev stop_marks : List walk.Mark
+  abbrev stop_marks : List Mark
   stop_marks = map mark_of w.walk.stops
 
   bound_in : slice_get w.walk.bounds (length bounds) ≡ Some (visit_mark bound)

@@ -17,7 +17,7 @@ use Rattle.graph_core_spec.specs.declared.Next.TheVariants as next
 use Rattle.graph_core_spec.specs.Graph.{Graph, Graphs, IsValid, node_at, empty}
 use Rattle.graph_core_spec.specs.Run.{State, Running, Returned, Failed, is_at, system_of, is_truth}
 use Rattle.graph_core_spec.specs.Fixed.{has_byte}
-use Rattle.visit_walk_spec.specs.declared.Mark.{Mark}
+use Rattle.graph_core_spec.specs.declared.Mark.{Mark}
 use Rattle.visit_walk_spec.specs.Visits.{Visit, marks, edges, is_full, is_last, is_stop, is_bounded}
 use Rattle.visit_walk_spec.specs.Outcomes.{AreVisits}
 use Rattle.visit_walk_spec.proofs.Order.{stop_or_bounded}
@@ -151,7 +151,7 @@ module _ (graphs : Graphs) (outermost : ℕ) (own : Family → Bool) (w : Way) (
   placed next.Err m n h = absurd (false≢true h)
 
   -- a bound that the run keeps until it stops isn't broken
-  pub not_broken : (i : ℕ) (b : walk.Mark) → slice_get w.walk.bounds i ≡ Some (visit_mark b)
+  pub not_broken : (i : ℕ) (b : Mark) → slice_get w.walk.bounds i ≡ Some (visit_mark b)
       → (stopped (system_of graphs outermost) (map mark_of w.walk.stops) seen.moment x ≡ false → arrivals (system_of graphs outermost) b.node seen.moment x < b.count)
       → breaks w.walk (visit_mark b) i seen.visit ≡ false
   not_broken i b e kept = elim (cases_Bool (breaks w.walk (visit_mark b) i seen.visit)) [
@@ -169,20 +169,20 @@ module _ (graphs : Graphs) (outermost : ℕ) (own : Family → Bool) (w : Way) (
   ]
 
   -- nor is any of a front of the walk's bounds
-  pub all_unbroken : (bounds : List walk.Mark) (index : ℕ)
+  pub all_unbroken : (bounds : List Mark) (index : ℕ)
       → (stopped (system_of graphs outermost) (map mark_of w.walk.stops) seen.moment x ≡ false
-      → All (λ (b : walk.Mark). arrivals (system_of graphs outermost) b.node seen.moment x < b.count) bounds)
-      → ((k : ℕ) (b : walk.Mark) → slice_get bounds k ≡ Some b → slice_get w.walk.bounds (index + k) ≡ Some (visit_mark b))
+      → All (λ (b : Mark). arrivals (system_of graphs outermost) b.node seen.moment x < b.count) bounds)
+      → ((k : ℕ) (b : Mark) → slice_get bounds k ≡ Some b → slice_get w.walk.bounds (index + k) ≡ Some (visit_mark b))
       → All (IsTrue a) (unbroken w visits index bounds)
   all_unbroken [] index kept front = All-nil (IsTrue a)
   all_unbroken (b ∷ bounds) index kept front =
       let same : index + 0 ≡ index = omega arith in
       let there : slice_get w.walk.bounds index ≡ Some (visit_mark b) = ap (slice_get w.walk.bounds) (sym same) ∙ front 0 b refl in
-      let free = not_broken index b there (λ runs. All-head (λ (m : walk.Mark). arrivals (system_of graphs outermost) m.node seen.moment x < m.count) b bounds (kept runs)) in
+      let free = not_broken index b there (λ runs. All-head (λ (m : Mark). arrivals (system_of graphs outermost) m.node seen.moment x < m.count) b bounds (kept runs)) in
       All-cons (IsTrue a) (not_term (condition_where w visits (breaks w.walk (visit_mark b) index))) (unbroken w visits (suc index) bounds)
       (not_false a (condition_where w visits (breaks w.walk (visit_mark b) index))
       (seen.condition (breaks w.walk (visit_mark b) index) (broken_ends index (visit_mark b) there) ∙ ap (λ (t : Bool). Truth t) free))
-      (all_unbroken bounds (suc index) (λ runs. All-tail (λ (m : walk.Mark). arrivals (system_of graphs outermost) m.node seen.moment x < m.count) b bounds (kept runs))
+      (all_unbroken bounds (suc index) (λ runs. All-tail (λ (m : Mark). arrivals (system_of graphs outermost) m.node seen.moment x < m.count) b bounds (kept runs))
       (λ k m e. let next_is : suc index + k ≡ index + suc k = omega arith in ap (slice_get w.walk.bounds) next_is ∙ front (suc k) m e))
 
   -- it doesn't fail

@@ -16,7 +16,7 @@ use Rattle.graph_core_spec.specs.Simulation as systems
 use Rattle.graph_core_spec.specs.Simulation.{IsStart, IsRelated}
 use Rattle.graph_core_spec.proofs.Runs.{stops_once}
 use Rattle.graph_core_spec.specs.Run.{State, Running, has_returned, is_truth, system_of}
-use Rattle.visit_walk_spec.specs.declared.Mark.{Mark}
+use Rattle.graph_core_spec.specs.declared.Mark.{Mark}
 use Rattle.visit_walk_spec.specs.Shape.{shape_of}
 use Rattle.visit_walk_spec.specs.Visits.{Visit, marks, edges, is_stop}
 use Rattle.path_cond_spec.specs.Runs.{mark_of, is_return, is_failure, AreCounted}
@@ -70,7 +70,7 @@ module _ (c : Convention) (f : Frame) (o : Opening) (proper : IsProper f) (opens
   counted =
       All-append (λ (m : Mark). 1 ≤ m.count) marks_here (map visit_mark f.start.binary_bounds)
       (All-map (λ (m : Mark). 1 ≤ m.count) visit_mark (hold_mark hold.nodes.binary ∷ binary_marks f)
-      (All-cons (λ (m : walk.Mark). 1 ≤ m.count) (hold_mark hold.nodes.binary) (binary_marks f) one_counts proper.binary_goals)) counted_bounds
+      (All-cons (λ (m : Mark). 1 ≤ m.count) (hold_mark hold.nodes.binary) (binary_marks f) one_counts proper.binary_goals)) counted_bounds
 
   counted_source : AreCounted (map visit_mark f.start.source_bounds)
   counted_source = All-map (λ (m : Mark). 1 ≤ m.count) visit_mark f.start.source_bounds proper.source_bounds
@@ -85,7 +85,7 @@ module _ (c : Convention) (f : Frame) (o : Opening) (proper : IsProper f) (opens
     fewer k runs =
         let parts = or_parts (has_returned (after of_x k at_x)) (reached of_x (map mark_of marks_here) k at_x) runs in
         let rest = or_parts (nat_le 1 (arrivals of_x hold.nodes.binary k at_x)) (reached of_x (map mark_of (map visit_mark (binary_marks f))) k at_x) parts.1 in
-        subst (λ (ms : List walk.Mark). stopped of_x ms k at_x ≡ false) (binary_marks_are c f o proper opens first_x first_y)
+        subst (λ (ms : List Mark). stopped of_x ms k at_x ≡ false) (binary_marks_are c f o proper opens first_x first_y)
         (or_from (has_returned (after of_x k at_x)) (reached of_x (map mark_of (map visit_mark (binary_marks f))) k at_x) parts.0 rest.1)
 
     module _ (at : ℕ) where

@@ -14,7 +14,7 @@ use Rattle.graph_core_spec.specs.declared.Next.{Next}
 use Rattle.graph_core_spec.specs.declared.Next.TheVariants as next
 use Rattle.graph_core_spec.specs.Graph.{Graphs, node_at}
 use Rattle.graph_core_spec.specs.Run.{State, Running, Returned, Failed, has_returned, has_failed, is_at, system_of, unset}
-use Rattle.visit_walk_spec.specs.declared.Mark.{Mark}
+use Rattle.graph_core_spec.specs.declared.Mark.{Mark}
 use Rattle.visit_walk_spec.specs.Visits.{Visit, marks, edges, is_stop, is_last}
 use Rattle.path_cond_spec.proofs.Runs.{arrivals-suc}
 use Rattle.path_cond_spec.specs.Runs.{IsWalkOver, counts_after, state_at, mark_of, is_return, is_failure, AreCounted}
@@ -57,7 +57,7 @@ module _ (graphs : Graphs) (outermost : ℕ) (own : Family → Bool) (w : Way) (
   abbrev pub system : walk.TransitionSystem State
   system = system_of graphs outermost
 
-  abbrev pub stop_marks : List walk.Mark
+  abbrev pub stop_marks : List Mark
   stop_marks = map mark_of w.walk.stops
 
   -- the run before its walk ends
@@ -125,7 +125,7 @@ module _ (graphs : Graphs) (outermost : ℕ) (own : Family → Bool) (w : Way) (
   counts_are [] k = refl
   counts_are (m ∷ ms) k = ap₂ (λ (c : ℕ) (cs : List ℕ). c ∷ cs) (arrivals_are m.node k) (counts_are ms k)
 
-  stopped_are : (ms : List walk.Mark) (k : ℕ) → stopped run ms k told ≡ stopped run ms k there
+  stopped_are : (ms : List Mark) (k : ℕ) → stopped run ms k told ≡ stopped run ms k there
   stopped_are ms k = same_stopped own graphs outermost speaks told there tt tt cleaned_same ms k
 
   pub watch : Watched graphs outermost own w visits a there
@@ -171,19 +171,19 @@ counts_at f (x ∷ ms) zero m e = ap f (same_Some x m e)
 counts_at f (x ∷ ms) (suc index) m e = counts_at f ms index m e
 
 module _ (graphs : Graphs) (outermost : ℕ) (x : State) where
-  reached_at : (ms : List walk.Mark) (k index : ℕ) (m : walk.Mark) → slice_get ms index ≡ Some m → m.count ≤ arrivals (system_of graphs outermost) m.node k x
+  reached_at : (ms : List Mark) (k index : ℕ) (m : Mark) → slice_get ms index ≡ Some m → m.count ≤ arrivals (system_of graphs outermost) m.node k x
       → reached (system_of graphs outermost) ms k x ≡ true
   unfolding reached
   reached_at [] k index m e enough = absurd (cc)
   reached_at (y ∷ ms) k zero m e enough =
       let is : y ≡ m = same_Some y m e in
       or_left (nat_le y.count (arrivals (system_of graphs outermost) y.node k x)) (reached (system_of graphs outermost) ms k x)
-      (ap (λ (z : walk.Mark). nat_le z.count (arrivals (system_of graphs outermost) z.node k x)) is ∙ le-leb m.count (arrivals (system_of graphs outermost) m.node k x) enough)
+      (ap (λ (z : Mark). nat_le z.count (arrivals (system_of graphs outermost) z.node k x)) is ∙ le-leb m.count (arrivals (system_of graphs outermost) m.node k x) enough)
   reached_at (y ∷ ms) k (suc index) m e enough =
       or_right (nat_le y.count (arrivals (system_of graphs outermost) y.node k x)) (reached (system_of graphs outermost) ms k x) (reached_at ms k index m e enough)
 
   -- where a run first stops at a mark, it is at the mark's node
-  pub stops_there : (ms : List walk.Mark) (t index : ℕ) (m : walk.Mark) → slice_get ms index ≡ Some m → 1 ≤ m.count
+  pub stops_there : (ms : List Mark) (t index : ℕ) (m : Mark) → slice_get ms index ≡ Some m → 1 ≤ m.count
       → ((k : ℕ) → k < t → stopped (system_of graphs outermost) ms k x ≡ false)
       → m.count ≤ arrivals (system_of graphs outermost) m.node t x → is_at graphs outermost m.node (after (system_of graphs outermost) t x) ≡ true
   unfolding arrivals

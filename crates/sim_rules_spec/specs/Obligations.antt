@@ -1,12 +1,14 @@
 -- The obligations of each rule, and why a rule has none.
 use Rattle.std.specs.Prelude.{◌≡◌, ◌⊎◌, ◌<◌, ℕ, List, [], ◌∷◌, ◌++◌, slice_get, Some}
 use Rattle.term_core_spec.specs.Term.{Term}
-use Rattle.graph_core_spec.specs.TransitionSystem.{Mark}
+use Rattle.graph_core_spec.specs.declared.Mark.{Mark}
 use Rattle.visit_walk_spec.specs.Shape.{Shape}
 use Rattle.visit_walk_spec.specs.Visits.{Walk}
 use Rattle.visit_walk_spec.specs.Outcomes.{IsAcyclic, IsCyclicAt, AreTooMany}
 use Rattle.proof_tree_spec.specs.Frames.{Side, Hold, Frame}
 use Rattle.proof_tree_spec.specs.Scope.{Setting, IsLine}
+use Rattle.sim_rules_spec.specs.declared.Side.{Side as Which}
+use Rattle.sim_rules_spec.specs.declared.Side.TheVariants.{Binary, Source}
 use Rattle.sim_rules_spec.specs.Points.{Convention}
 use Rattle.sim_rules_spec.specs.Sides.{binary_way, source_way, IsCutTo}
 use Rattle.sim_rules_spec.specs.Calls.{CallPair, Callee, AreOfCall}
@@ -91,3 +93,40 @@ IsLargeRule o f maximum (Call calls callee path before later) n = ⊥
 IsLargeRule o f maximum (Wait hold) n =
     let w = (waiting_way f o.binary hold.nodes.binary).walk in
     IsAcyclic w × (AreTooMany w maximum n ⊎ AreTooMany (source_way f o.source).walk maximum n)
+
+-- ---- the same, of a side
+
+-- the walk of this side goes round; that of the source is named where the binary's, if it has to be acyclic, is so
+abbrev pub IsCyclicOn : Opening → Frame → Rule → Which → (node : ℕ) → Type 0
+IsCyclicOn o f Leaf Binary n = IsCyclicAt (binary_way f o.binary).walk n
+IsCyclicOn o f Leaf Source n = IsAcyclic (binary_way f o.binary).walk × IsCyclicAt (source_way f o.source).walk n
+IsCyclicOn o f (Case test) side n = ⊥
+IsCyclicOn o f (RestrictBinary bound) Binary n = (w : Walk) × IsOfBinary o f bound w × IsCyclicAt w n
+IsCyclicOn o f (RestrictBinary bound) Source n = ⊥
+IsCyclicOn o f (RestrictSource bound) Binary n = ⊥
+IsCyclicOn o f (RestrictSource bound) Source n = (w : Walk) × IsOfSource o f bound w × IsCyclicAt w n
+IsCyclicOn o f (Cut path lines) side n = ⊥
+IsCyclicOn o f (Call calls callee path before later) side n = ⊥
+IsCyclicOn o f (Wait hold) Binary n = IsCyclicAt (waiting_way f o.binary hold.nodes.binary).walk n
+IsCyclicOn o f (Wait hold) Source n = ⊥
+
+-- the walk of this side has more visits than the maximum
+abbrev pub IsLargeOn : Opening → Frame → (maximum : ℕ) → Rule → Which → (count : ℕ) → Type 0
+IsLargeOn o f maximum Leaf Binary n =
+    IsAcyclic (binary_way f o.binary).walk × IsAcyclic (source_way f o.source).walk × AreTooMany (binary_way f o.binary).walk maximum n
+IsLargeOn o f maximum Leaf Source n =
+    IsAcyclic (binary_way f o.binary).walk × IsAcyclic (source_way f o.source).walk × AreTooMany (source_way f o.source).walk maximum n
+IsLargeOn o f maximum (Case test) side n = ⊥
+IsLargeOn o f maximum (RestrictBinary bound) Binary n = (w : Walk) × IsOfBinary o f bound w × IsAcyclic w × AreTooMany w maximum n
+IsLargeOn o f maximum (RestrictBinary bound) Source n =
+    (w : Walk) × IsOfBinary o f bound w × IsAcyclic w × AreTooMany (source_way f o.source).walk maximum n
+IsLargeOn o f maximum (RestrictSource bound) Binary n =
+    (w : Walk) × IsOfSource o f bound w × IsAcyclic w × AreTooMany (binary_way f o.binary).walk maximum n
+IsLargeOn o f maximum (RestrictSource bound) Source n = (w : Walk) × IsOfSource o f bound w × IsAcyclic w × AreTooMany w maximum n
+IsLargeOn o f maximum (Cut path lines) side n = ⊥
+IsLargeOn o f maximum (Call calls callee path before later) side n = ⊥
+IsLargeOn o f maximum (Wait hold) Binary n =
+    let w = (waiting_way f o.binary hold.nodes.binary).walk in
+    IsAcyclic w × AreTooMany w maximum n
+IsLargeOn o f maximum (Wait hold) Source n =
+    IsAcyclic (waiting_way f o.binary hold.nodes.binary).walk × AreTooMany (source_way f o.source).walk maximum n

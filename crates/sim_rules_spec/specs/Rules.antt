@@ -6,7 +6,7 @@ use Rattle.term_core_spec.specs.Same.{same_variable}
 use Rattle.term_core_spec.specs.Term.{Term, truth, and_term, or_term, not_term, open_term, over}
 use Rattle.term_core_spec.specs.Value.{Value, Assignment, IsAssignment}
 use Rattle.term_core_spec.specs.Substitution.{State as Terms, substituted}
-use Rattle.graph_core_spec.specs.TransitionSystem.{Mark}
+use Rattle.graph_core_spec.specs.declared.Mark.{Mark}
 use Rattle.graph_core_spec.specs.Fixed.{has_byte}
 use Rattle.visit_walk_spec.specs.Shape.{Shape}
 use Rattle.visit_walk_spec.specs.Visits.{Visit}

@@ -2,10 +2,9 @@
 use Rattle.std.specs.Prelude.{◌≡◌, ◌⊎◌, ◌<◌, ℕ, suc, ◌+◌, ◌&&◌, not, Bool, if◌then◌else◌, List, [], ◌∷◌, length, map, get_or, slice_get, unwrap_or, Option, Some, None}
 use Rattle.term_core_spec.specs.Term.{Term, not_term}
 use Rattle.term_core_spec.specs.Substitution.{State as Terms}
-use Rattle.graph_core_spec.specs.TransitionSystem.{Mark}
+use Rattle.graph_core_spec.specs.declared.Mark.{Mark}
 use Rattle.graph_core_spec.specs.Graph.{Graph, Graphs, empty}
 use Rattle.graph_core_spec.specs.Run.{IsPath}
-use Rattle.visit_walk_spec.specs.declared.Mark.{Mark as VisitMark}
 use Rattle.visit_walk_spec.specs.declared.Successors.TheVariants.{Nothing}
 use Rattle.visit_walk_spec.specs.Shape.{Shape, shape_of, successors_at}
 use Rattle.visit_walk_spec.specs.Visits.{Walk, Visit, is_full, is_stop}
@@ -15,7 +14,7 @@ use Rattle.path_cond_spec.specs.Conditions.{Conditional, conditionals, condition
 use Rattle.path_cond_spec.specs.Runs.{is_return, is_failure}
 use Rattle.proof_tree_spec.specs.Frames.{Side, Frame, binary_marks, source_marks}
 
-abbrev pub visit_mark : Mark → VisitMark
+abbrev pub visit_mark : Mark → Mark
 visit_mark m = record { node = m.node; count = m.count }
 
 -- the graph that a side runs
@@ -68,11 +67,11 @@ abbrev pub fails : Visit → Bool
 fails v = is_failure v.place
 
 -- the visit is the arrival that the mark at this index of the walk's marks counts
-abbrev pub arrives : VisitMark → (index : ℕ) → Visit → Bool
+abbrev pub arrives : Mark → (index : ℕ) → Visit → Bool
 arrives m index v = is_full v.place m (get_or v.counts index 0)
 
 -- it breaks the bound at this index, and is no stop
-abbrev pub breaks : Walk → VisitMark → (index : ℕ) → Visit → Bool
+abbrev pub breaks : Walk → Mark → (index : ℕ) → Visit → Bool
 breaks w b index v = not (is_stop w v) && arrives b (length w.stops + index) v
 
 -- no bound is broken, from the one at this index on: a term for each

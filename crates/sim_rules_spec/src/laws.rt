@@ -14,7 +14,7 @@ ghost use Rattle.proof_tree_spec.specs.declared.Counts.{Counts};
 ghost use Rattle.graph_core_spec.specs.Run.{Failed, Running, resumed};
 ghost use Rattle.term_core_spec.specs.Value.{Assignment, IsAssignment};
 ghost use Rattle.graph_core_spec.specs.Simulation.{IsRelated, Simulates};
-ghost use Rattle.graph_core_spec.specs.TransitionSystem.{Mark};
+ghost use Rattle.graph_core_spec.specs.declared.Mark.{Mark};
 ghost use Rattle.proof_tree_spec.specs.Scope.{IsLine};
 ghost use Rattle.sim_rules_spec.specs.Calling as calling;
 ghost use Rattle.sim_rules_spec.specs.Calls.{AreTrueOfCall, BeginsWell, CallPair, Callee};

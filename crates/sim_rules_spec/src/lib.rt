@@ -10,3 +10,12 @@
 
 pub mod laws;
 pub mod samples;
+
+/// A side of a function.
+#[derive(Clone, Copy)]
+pub enum Side {
+    /// the binary
+    Binary,
+    /// the source
+    Source,
+}

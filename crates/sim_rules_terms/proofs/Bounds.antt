@@ -4,7 +4,7 @@ use Rattle.std.specs.List.{fold}
 use Rattle.std.proofs.lemmas.List.{at_drop_more}
 use Rattle.term_core_spec.specs.Term.{Term, and_term, not_term}
 use Rattle.visit_walk_spec.specs.Visits.{Visit}
-use Rattle.proof_tree_spec.specs.declared.Mark.{Mark}
+use Rattle.graph_core_spec.specs.declared.Mark.{Mark}
 use Rattle.proof_tree.specs.Frames.{mark_of}
 use Rattle.sim_rules_spec.specs.Sides.{Way, unbroken, condition_where, breaks, visit_mark}
 

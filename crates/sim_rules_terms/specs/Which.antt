@@ -1,6 +1,6 @@
 -- The visits that a rule speaks of, of the code as the definitions have them.
 use Rattle.std.specs.Prelude.{◌+◌, ◌&&◌, not, Bool, List, length}
-use Rattle.visit_walk_spec.specs.declared.Mark.{Mark}
+use Rattle.graph_core_spec.specs.declared.Mark.{Mark}
 use Rattle.visit_walk_spec.specs.Visits.{Visit, ends_at_stop}
 use Rattle.sim_rules_spec.specs.Sides.{returns, fails, arrives}
 use Rattle.sim_rules_terms.specs.declared.which.Which.{Which}

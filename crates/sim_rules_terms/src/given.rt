@@ -21,11 +21,10 @@ use crate::logic::{both, negation, truth};
 use crate::points::{BothSides, Opening};
 use crate::sight::Sight;
 use crate::which::Which;
+use graph_core_spec::Mark;
 use proof_tree::{Premise, Start};
-use proof_tree_spec::Mark;
 use std::alloc::{AllocError, Global};
 use term_bank::{Bank, TermId};
-use visit_walk_spec::Mark as Arrival;
 
 // `and` of a term and that the bound at an index is not broken.
 fn and_bound(
@@ -47,7 +46,7 @@ fn and_bound(
     ensures longer { length bank.old ≤ length bank.new }
 {
     let Mark { node, count } = bound;
-    let which = Which::Breaks(Arrival { node, count }, index);
+    let which = Which::Breaks(Mark { node, count }, index);
     let broken = sight.condition(alloc, which, bank)?;
     let kept = negation(bank, broken)?;
     both(bank, first, kept)

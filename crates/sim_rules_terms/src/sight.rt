@@ -10,11 +10,11 @@ ghost use Rattle.sim_rules_terms.specs.Which.{test_of};
 
 use crate::lines::Known;
 use crate::which::{Which, find_members};
+use graph_core_spec::Mark;
 use path_cond::{Conditions, several, state_map};
 use std::alloc::{AllocError, Global};
 use term_bank::{Bank, TermId};
 use visit_walk::Visits;
-use visit_walk_spec::Mark;
 
 /// The visits of a side's walk, with their conditions and states in a bank.
 #[derive(Clone, Copy)]

@@ -14,12 +14,13 @@ ghost use Rattle.sim_rules_spec.specs.Sides as sides;
 ghost use Rattle.sim_rules_terms.specs.Ways.{IsWay, walk_on};
 
 use crate::lines::Known;
+use attempt::Refusal;
 use graph_core::Graph;
+use graph_core_spec::Mark;
 use path_cond::{Conditions, conditions};
 use std::alloc::{AllocError, Global};
 use term_bank::Bank;
 use visit_walk::{Shape, Visits, WalkFault, visits};
-use visit_walk_spec::Mark;
 
 /// One side of a frame: its graph, its walk, and the terms of its variables where it starts.
 #[derive(Drop)]
@@ -40,7 +41,7 @@ pub struct Way<'a> {
 
 impl<'a> Way<'a> {
     /// The visits of the walk, or why there is no list of them.
-    pub fn visits(&self, alloc: Global, maximum: usize) -> Result<Visits, WalkFault>
+    pub fn visits(&self, alloc: Global, maximum: usize) -> Result<Visits, Refusal<WalkFault>>
         ensures listing { IfOk result (IsListing (walk_on self.now) maximum) }
         ensures fault { IfErr result (IsWalkFault (walk_on self.now) maximum) }
     {

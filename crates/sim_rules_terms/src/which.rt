@@ -5,10 +5,9 @@ ghost use Rattle.sim_rules_spec.specs.Sides as sides;
 ghost use Rattle.visit_walk.specs.Tables.{stray};
 ghost use Rattle.sim_rules_terms.specs.Which.{test_of};
 
-use graph_core_spec::Next;
+use graph_core_spec::{Mark, Next};
 use std::alloc::AllocError;
 use visit_walk::Visits;
-use visit_walk_spec::Mark;
 
 /// Which visits. A mark is with its index among the stops of the walk, or among its bounds.
 #[derive(Clone, Copy)]

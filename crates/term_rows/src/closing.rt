@@ -9,23 +9,23 @@
 ghost use Rattle.std.specs.Prelude.{◌<◌, length};
 
 use crate::logs::add_steps;
-use attempt::attempt;
-use discharge::{CloseError, Listing, SeekError, Sought, close, seek};
+use attempt::{Refusal, attempt};
+use discharge::{CloseFault, Listing, SeekFault, Sought, close, seek};
 use row_io::Out;
 use sat_search_analysis::Step;
 use std::alloc::{AllocError, Global};
 use term_bank::{Bank, TermId};
 use term_core::Assignment;
 
-fn put_close_error(error: CloseError, out: &mut Out) -> Result<(), AllocError> {
+fn put_close_error(error: Refusal<CloseFault>, out: &mut Out) -> Result<(), AllocError> {
     match error {
-        CloseError::Large(_, _) => out.put("large"),
-        CloseError::Step(number) => {
+        Refusal::Fault(CloseFault::Large(_, _)) => out.put("large"),
+        Refusal::Fault(CloseFault::Step(number)) => {
             out.put("step ");
             out.show(&number);
         }
-        CloseError::Unclosed => out.put("unclosed"),
-        CloseError::NoMemory => return Err(AllocError),
+        Refusal::Fault(CloseFault::Unclosed) => out.put("unclosed"),
+        Refusal::NoMemory => return Err(AllocError),
     }
     Ok(())
 }
@@ -87,10 +87,10 @@ pub(crate) fn put_sought(
             out.show(&log.len());
             Ok(())
         }
-        Err(SeekError::Large(_, _)) => {
+        Err(Refusal::Fault(SeekFault::Large(_, _))) => {
             out.put("large");
             Ok(())
         }
-        Err(SeekError::NoMemory) => Err(AllocError),
+        Err(Refusal::NoMemory) => Err(AllocError),
     }
 }

@@ -11,8 +11,8 @@
 ghost use Rattle.std.specs.Prelude.{◌<◌, length};
 
 use crate::{Question, Row};
-use attempt::attempt;
-use bit_blast::{BlastError, Blasted, blast, read_back};
+use attempt::{Refusal, attempt};
+use bit_blast::{BlastFault, Blasted, blast, read_back};
 use cnf_core::{Cnf, Literal, eval};
 use row_io::{Out, decimal};
 use std::alloc::{AllocError, Global};
@@ -109,14 +109,14 @@ fn put_blasted(
 }
 
 /// Why there are no clauses; the number that is reported is to be above the maximum.
-fn put_error(error: BlastError, maximum: usize, out: &mut Out) -> Result<(), AllocError> {
+fn put_error(error: Refusal<BlastFault>, maximum: usize, out: &mut Out) -> Result<(), AllocError> {
     match error {
-        BlastError::Large(count) if count > maximum => out.put("large"),
-        BlastError::Large(count) => {
+        Refusal::Fault(BlastFault::Large(count)) if count > maximum => out.put("large"),
+        Refusal::Fault(BlastFault::Large(count)) => {
             out.put("large ");
             out.show(&count);
         }
-        BlastError::NoMemory => return Err(AllocError),
+        Refusal::NoMemory => return Err(AllocError),
     }
     Ok(())
 }

@@ -5,7 +5,8 @@ ghost use Rattle.std.specs.Prelude.{◌≡◌};
 ghost use Rattle.std.specs.List.{list_all};
 ghost use Rattle.clause_check_spec.specs.Clause.{is_of};
 
-use clause_check::{Literal, Log, StepError};
+use attempt::Refusal;
+use clause_check::{Literal, Log};
 use cnf_core::Cnf;
 use row_io::{Out, decimal, split};
 use sat_search_analysis::Step;
@@ -72,11 +73,11 @@ fn clauses(alloc: Global, cnf: &mut Cnf, text: &str) -> Result<(), AllocError> {
 fn put_step(log: &mut Log, literals: &[Literal], hints: &[usize], out: &mut Out) {
     match log.step(literals, hints) {
         Ok(()) => out.put("ok, "),
-        Err(StepError::Fault(fault)) => {
+        Err(Refusal::Fault(fault)) => {
             out.display(&fault);
             out.put(", ");
         }
-        Err(StepError::NoMemory) => out.fail(),
+        Err(Refusal::NoMemory) => out.fail(),
     }
 }
 

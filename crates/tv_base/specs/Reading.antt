@@ -1,5 +1,6 @@
 -- What reading does to what is left of a file. `None` is where contracts do not see it.
 use Rattle.std.specs.Prelude.{◌≡◌, ℕ, List, ◌++◌, ◌∷◌, take, drop, Option, IfSome, option_map, Result, IfOk, ◌≤◌, []}
+use Rattle.attempt.specs.declared.refusal.Refusal.{Refusal}
 use Rattle.tv_base.specs.declared.faults.OutsideFault.{OutsideFault}
 
 -- the names that were begun, and then this one
@@ -11,7 +12,7 @@ abbrev pub HandsOver : Option (List ℕ) → List ℕ → Option (List ℕ) → 
 HandsOver before bytes now = before ≡ option_map (λ rest. bytes ++ rest) now
 
 -- a read hands over the first bytes of its buffer, as many as it answers
-abbrev pub HandsOverFirst : Option (List ℕ) → Result ℕ OutsideFault → (buf : List ℕ) → Option (List ℕ) → Type 0
+abbrev pub HandsOverFirst : Option (List ℕ) → Result ℕ (Refusal OutsideFault) → (buf : List ℕ) → Option (List ℕ) → Type 0
 HandsOverFirst before result buf now = IfOk result (λ count. HandsOver before (take count buf) now)
 
 -- nothing is left
@@ -19,7 +20,7 @@ abbrev pub IsAtEnd : Option (List ℕ) → Type 0
 IsAtEnd left = IfSome left (λ rest. rest ≡ [])
 
 -- a read that answers 0 has nothing left to hand over
-abbrev pub ZeroAtEnd : Option (List ℕ) → Result ℕ OutsideFault → Type 0
+abbrev pub ZeroAtEnd : Option (List ℕ) → Result ℕ (Refusal OutsideFault) → Type 0
 ZeroAtEnd before result = IfOk result (λ count. count ≡ 0 → IsAtEnd before)
 
 -- these bytes are the first of what was left, as many as there are up to this number, and the others are left

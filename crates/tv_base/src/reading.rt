@@ -1,11 +1,12 @@
 ghost use Rattle.std.specs.Prelude.{◌≡◌, ℕ, ◌+◌, ◌<◌, ◌≤◌, List, ◌++◌, length, take, Option, IfOk};
 ghost use Rattle.std.specs.Prelude.{OnOk, OnErr, IsErrOf, vec_len};
-ghost use Rattle.tv_base.specs.declared.faults.OutsideFault.TheVariants.{NoMemory};
+ghost use Rattle.attempt.specs.declared.refusal.Refusal.TheVariants.{NoMemory};
 ghost use Rattle.tv_base.specs.Faults.{HasCause};
 ghost use Rattle.tv_base.specs.Reading.{HandsOverFirst, ZeroAtEnd, IsTaken, IsPartlyTaken};
 ghost use Rattle.tv_base.specs.Reading.{with_name};
 
 use crate::OutsideFault;
+use attempt::Refusal;
 use std::alloc::Global;
 
 /// How many bytes one read asks for.
@@ -26,7 +27,7 @@ pub trait Desk {
     ghost faults: { Self → ℕ };
 
     /// Begins the file of this name, from its first byte. A name without a file is refused.
-    fn begin(&mut self, name: &str) -> Result<(), OutsideFault>
+    fn begin(&mut self, name: &str) -> Result<(), Refusal<OutsideFault>>
         ensures begins { OnOk result (left self.new ≡ bytes self.old name.now) }
         ensures opens { OnOk result (opened self.new ≡ with_name (opened self.old) name.now) }
         ensures same_bytes { bytes self.new ≡ bytes self.old }
@@ -38,7 +39,7 @@ pub trait Desk {
 
     /// Hands over the next bytes of the begun file, at the front of `buf`, and answers how many;
     /// 0 only where none is left.
-    fn read(&mut self, buf: &mut [u8]) -> Result<usize, OutsideFault>
+    fn read(&mut self, buf: &mut [u8]) -> Result<usize, Refusal<OutsideFault>>
         requires { 0 < length buf.old }
         ensures bound { IfOk result (λ count. count ≤ length buf.old) }
         ensures hands_over { HandsOverFirst (left self.old) result buf.new (left self.new) }
@@ -57,7 +58,7 @@ fn read_piece<D: Desk>(
     desk: &mut D,
     buf: &mut [u8],
     bytes: &mut Vec<u8>,
-) -> Result<usize, OutsideFault>
+) -> Result<usize, Refusal<OutsideFault>>
     requires { 0 < length buf.old }
     ensures bound { IfOk result (λ count. count ≤ length buf.old) }
     ensures appends { IfOk result (λ count. bytes.new.items
@@ -79,7 +80,7 @@ fn read_piece<D: Desk>(
 }
 
 /// An empty buffer for the pieces that are read.
-fn make_buffer(alloc: Global) -> Result<Vec<u8>, OutsideFault>
+fn make_buffer(alloc: Global) -> Result<Vec<u8>, Refusal<OutsideFault>>
     ensures room { IfOk result (λ buf. 0 < vec_len buf) }
     ensures no_memory { OnErr result (IsErrOf result NoMemory) }
 {
@@ -92,7 +93,7 @@ pub fn read_up_to<D: Desk>(
     alloc: Global,
     desk: &mut D,
     most: usize,
-) -> Result<Vec<u8>, OutsideFault>
+) -> Result<Vec<u8>, Refusal<OutsideFault>>
     ensures bound { IfOk result (λ bytes. vec_len bytes ≤ most) }
     ensures taken { IfOk result (λ bytes. IsTaken most (D.left desk.old) bytes.items
         (D.left desk.new)) }

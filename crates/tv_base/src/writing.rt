@@ -1,10 +1,11 @@
 ghost use Rattle.std.specs.Prelude.{◌≡◌, ℕ, ◌<◌, ◌≤◌, List, length, Option, IfOk, OnOk};
 ghost use Rattle.std.specs.Prelude.{OnErr, IsErrOf};
-ghost use Rattle.tv_base.specs.declared.faults.OutsideFault.TheVariants.{NoMemory};
+ghost use Rattle.attempt.specs.declared.refusal.Refusal.TheVariants.{NoMemory};
 ghost use Rattle.tv_base.specs.Faults.{HasCause};
 ghost use Rattle.tv_base.specs.Writing.{Grows, GrowsByFirst, GrowsPartly, IsEmptied};
 
 use crate::OutsideFault;
+use attempt::Refusal;
 
 /// A place to write.
 pub trait Sink {
@@ -20,7 +21,7 @@ pub trait Sink {
 
     /// Adds the first bytes of `bytes` at the end of what is held, and answers how many; at least
     /// one, unless `bytes` is empty.
-    fn put(&mut self, bytes: &[u8]) -> Result<usize, OutsideFault>
+    fn put(&mut self, bytes: &[u8]) -> Result<usize, Refusal<OutsideFault>>
         ensures bound { IfOk result (λ count. count ≤ length bytes.now) }
         ensures progress { IfOk result (λ count. 0 < length bytes.now → 0 < count) }
         ensures grows { GrowsByFirst (held self.old) (begun self.old) result bytes.now
@@ -35,7 +36,7 @@ pub trait Sink {
 /// Files that are written, one at a time.
 pub trait Store: Sink {
     /// Begins the file of this name, which then holds nothing.
-    fn begin(&mut self, name: &str) -> Result<(), OutsideFault>
+    fn begin(&mut self, name: &str) -> Result<(), Refusal<OutsideFault>>
         ensures empties { OnOk result (IsEmptied (Self.held self.old) name.now
             (Self.held self.new)) }
         ensures name { OnOk result (Self.begun self.new ≡ name.now) }
@@ -48,7 +49,7 @@ pub trait Store: Sink {
 
 /// Writes all of `bytes`, in as many calls as it takes. After a refusal a proper prefix of
 /// them is written.
-pub fn write_all<S: Sink>(sink: &mut S, bytes: &[u8]) -> Result<(), OutsideFault>
+pub fn write_all<S: Sink>(sink: &mut S, bytes: &[u8]) -> Result<(), Refusal<OutsideFault>>
     ensures grows { OnOk result (Grows (S.held sink.old) (S.begun sink.old) bytes.now
         (S.held sink.new)) }
     ensures part { OnErr result (GrowsPartly (S.held sink.old) (S.begun sink.old) bytes.now

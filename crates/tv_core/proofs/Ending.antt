@@ -4,8 +4,10 @@ use Rattle.std.specs.Prelude.{◌↔◌, ◌&&◌, if◌then◌else◌, IfSome, 
 use Rattle.elf_read_spec.specs.Image.{Image}
 use Rattle.c_types_spec.specs.Core.{Typed}
 use Rattle.report_text_spec.specs.Verdict.{Verdict, RefusedWords, TooLarge, RefusedElf, RefusedC, RefusedPair, RefusedCode, RefusedCertificate, NotProof, Checked, Judged, Showed, Judgement, Shown, all_valid, status_of}
+use Rattle.attempt.specs.declared.refusal.Refusal.{Refusal}
+use Rattle.attempt.specs.declared.refusal.Refusal.TheVariants.{Fault, NoMemory}
 use Rattle.tv_base.specs.declared.faults.OutsideFault.{OutsideFault}
-use Rattle.tv_base.specs.declared.faults.OutsideFault.TheVariants.{Failed, NoMemory}
+use Rattle.tv_base.specs.declared.faults.OutsideFault.TheVariants.{Failed}
 use Rattle.tv_words.specs.Commands.{Command, Prove, Check, Show, AreListed, IsCommand, is_prove, is_check, is_show}
 use Rattle.tv_core_spec.specs.Decisions.{Decision, Trails, no_trails, plain, first_unproved}
 use Rattle.tv_core_spec.specs.Laws.{OneVerdict, GivesNoneTwice, ProvedIsChecked, UnprovedIsMissing}
@@ -397,19 +399,19 @@ hands_out_nothing code trails cut none = record {
 
 -- ---- a run that was cut off
 
-module _ (words : List (List ℕ)) (before now : State) (trails_before trails : Trails) (r : Result ℕ OutsideFault) (h : RunsTo words before now trails_before trails r)
+module _ (words : List (List ℕ)) (before now : State) (trails_before trails : Trails) (r : Result ℕ (Refusal OutsideFault)) (h : RunsTo words before now trails_before trails r)
     (none : trails_before ≡ no_trails) where
-  emptied : (fault : OutsideFault) → r ≡ Err fault → trails ≡ no_trails
+  emptied : (fault : Refusal OutsideFault) → r ≡ Err fault → trails ≡ no_trails
   emptied fault is = (let kept = subst (λ x. OnErr x (trails ≡ trails_before)) is h.trails_kept in kept ∙ none)
 
-  pub ends_failed : r ≡ Err Failed → Ends words before now trails 4
+  pub ends_failed : r ≡ Err (Fault Failed) → Ends words before now trails 4
   ends_failed is = record {
     valid = λ e. absurd (omega (arith, e));
     unproved = λ e. absurd (omega (arith, e));
     ended = λ four five. absurd (four refl);
     usage = λ four five. absurd (four refl);
     decided = λ four five. absurd (four refl);
-    handed_out = hands_out_nothing 4 trails (inl refl) (emptied Failed is);
+    handed_out = hands_out_nothing 4 trails (inl refl) (emptied (Fault Failed) is);
     part = λ cut. subst (λ x. OnErr x (EndsPartly words before.desk.files before.outputs now.outputs)) is h.part;
     store_part = h.store_part;
     taken = h.taken;
@@ -434,7 +436,7 @@ module _ (words : List (List ℕ)) (before now : State) (trails_before trails : 
 
 -- ---- a decision that is published
 
-pub ended_by : (words : List (List ℕ)) (files : Contents) (name : List ℕ) (decision : Decision) (before now : Outputs) (trails : Trails) (r : Result ℕ OutsideFault)
+pub ended_by : (words : List (List ℕ)) (files : Contents) (name : List ℕ) (decision : Decision) (before now : Outputs) (trails : Trails) (r : Result ℕ (Refusal OutsideFault))
     → IsOutcome words files name decision → IfOk r (λ code. (code ≡ status_of decision.verdict) × (trails ≡ decision.trails)) → Publishes name decision before now r
     → IfOk r (λ code. EndsWith words files code before now trails)
 ended_by words files name decision before now trails (Ok code) outcome is published = record {
@@ -460,7 +462,7 @@ as_status x name decision before now code p = record {
   no_memory = λ e. absurd cc;
 }
 
-pub as_fault : {T U : Type 0} (name : List ℕ) (decision : Decision) (before now : Outputs) (fault : OutsideFault) → Publishes {T = T} name decision before now (Err fault) → Publishes {T = U} name decision before now (Err fault)
+pub as_fault : {T U : Type 0} (name : List ℕ) (decision : Decision) (before now : Outputs) (fault : Refusal OutsideFault) → Publishes {T = T} name decision before now (Err fault) → Publishes {T = U} name decision before now (Err fault)
 as_fault name decision before now fault p = record {
   reported = tt;
   stored = tt;
@@ -469,7 +471,7 @@ as_fault name decision before now fault p = record {
   store_first = p.store_first;
   report_later = p.report_later;
   store_later = p.store_later;
-  failed = λ e. let is : fault ≡ Failed = cc in p.failed (ap Err is);
+  failed = λ e. let is : fault ≡ Fault Failed = cc in p.failed (ap Err is);
   unfailing = tt;
   no_memory = λ e. let is : fault ≡ NoMemory = cc in p.no_memory (ap Err is);
 }

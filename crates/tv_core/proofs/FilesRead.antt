@@ -8,11 +8,12 @@ use Rattle.cert_check_spec.specs.Verdict.{Listed}
 use Rattle.cert_run_spec.specs.Verdict.{valid_judgement}
 use Rattle.cert_run_spec.specs.Verdict as spec
 use Rattle.report_text_spec.specs.Verdict.{TooLarge, all_valid}
-use Rattle.report_text_spec.specs.declared.Quantity.TheVariants.{Elf, C}
+use Rattle.tv_limits.specs.declared.Quantity.TheVariants.{Elf, C}
 use Rattle.tv_core_spec.specs.Decisions.{Decision, plain}
 use Rattle.tv_core_spec.specs.Listing.{Judge, Verify, Display}
 use Rattle.tv_core_spec.specs.Verdicts.{IsSound, Judges, elf_refused, c_refused, too_many, pair_refused, code_refused, too_large, judged, over, certificate_large, checked, showed, elf_large, c_large, within, verdict_of_outcome}
 use Rattle.tv_limits.specs.declared.TheConstants.{MAX_ELF_BYTES, MAX_C_BYTES, MAX_CERTIFICATE_BYTES}
+use Rattle.attempt.specs.declared.refusal.Refusal.{Refusal}
 use Rattle.tv_base.specs.declared.faults.OutsideFault.{OutsideFault}
 use Rattle.tv_base.specs.Reading.{with_name}
 use Rattle.tv_words.specs.Commands.{Command, Prove, Proving, Check, Checking, Show, Showing}
@@ -189,7 +190,7 @@ judged_files files command elf c decision elf_read small c_read (inl large) =
 judged_files files command elf c decision elf_read small c_read (inr h) =
     (files_judged files command elf c elf_read small c_read decision h.0 h.1, of_command elf c command h.1.0 decision h.1.2)
 
-pub judged_read : (files : Contents) (elf c : List ℕ) (command : Command) (r : Result CodeDecision OutsideFault) → length c ≤ MAX_C_BYTES
+pub judged_read : (files : Contents) (elf c : List ℕ) (command : Command) (r : Result CodeDecision (Refusal OutsideFault)) → length c ≤ MAX_C_BYTES
     → IfOk r (λ d. JudgesWith files elf c command (decision_of d)) → IfOk r (λ d. JudgesRead files elf c command (decision_of d))
 judged_read files elf c command r small h =
     IfOk-weaker r (λ d. JudgesWith files elf c command (decision_of d)) (λ d. JudgesRead files elf c command (decision_of d)) (λ d judged. inr (small, judged)) h
@@ -197,7 +198,7 @@ judged_read files elf c command r small h =
 -- ---- one call after the other
 
 -- a file that was read is one of an equal name
-pub renamed : (one two : List ℕ) (maximum : ℕ) (before now : DeskState) (r : Result (Vec ℕ Global) OutsideFault) → one ≡ two
+pub renamed : (one two : List ℕ) (maximum : ℕ) (before now : DeskState) (r : Result (Vec ℕ Global) (Refusal OutsideFault)) → one ≡ two
     → ReadsFile one maximum before now r → ReadsFile two maximum before now r
 renamed one two maximum before now r e reads = subst (λ n. ReadsFile n maximum before now r) e reads
 
@@ -269,12 +270,12 @@ module _ (command : Command) (before middle now : DeskState) (files : middle.fil
         subst (λ fs. NeedsCertificate fs command) files o.3,
       )
 
-pub reads_source : (command : Command) (elf : List ℕ) (before now : DeskState) (r : Result (Vec ℕ Global) OutsideFault)
+pub reads_source : (command : Command) (elf : List ℕ) (before now : DeskState) (r : Result (Vec ℕ Global) (Refusal OutsideFault))
     → ReadsFile (asked_of command).source MAX_C_BYTES before now r → length elf ≤ MAX_ELF_BYTES → ReadsSource command elf before now
 reads_source command elf before now r reads small =
     record { taken = inl reads.taken; opened = elim reads.opened_part [ inl e ↦ inl e | inr e ↦ inr (small, inl e) ] }
 
-pub reads_elf : (command : Command) (before now : DeskState) (r : Result (Vec ℕ Global) OutsideFault) → ReadsFile (asked_of command).elf MAX_ELF_BYTES before now r
+pub reads_elf : (command : Command) (before now : DeskState) (r : Result (Vec ℕ Global) (Refusal OutsideFault)) → ReadsFile (asked_of command).elf MAX_ELF_BYTES before now r
     → ReadsFiles command before now
 reads_elf command before now r reads =
     record { taken = inl reads.taken; opened = elim reads.opened_part [ inl e ↦ inl e | inr e ↦ inr (inl e) ] }

@@ -5,7 +5,7 @@ use Rattle.std.specs.Prelude.{◌↔◌, All, if◌then◌else◌}
 use Rattle.std.proofs.lemmas.List.Elements.{All-nil, All-cons}
 use Rattle.cert_text_spec.specs.Lines.{Line}
 use Rattle.cert_check_spec.specs.Verdict.{Listed}
-use Rattle.report_text_spec.specs.declared.Quantity.TheVariants.{Elf, C, Functions, Nodes, Certificate, Visits, Terms, Variables}
+use Rattle.tv_limits.specs.declared.Quantity.TheVariants.{Elf, C, Functions, Nodes, Certificate, Visits, Terms, Variables, Call, Steps, Known}
 use Rattle.report_text_spec.specs.Verdict.{Verdict, RefusedWords, TooLarge, RefusedElf, RefusedC, RefusedPair, RefusedCode, RefusedCertificate, NotProof, Checked, Judged, Showed, Judgement, all_valid, status_of, maximum_of}
 use Rattle.prove_run_spec.specs.Trails.{Found, Proved, Unproved, AreFound}
 use Rattle.prove_run_spec.specs.Written.{Failure, failures, proof_lines}
@@ -133,6 +133,9 @@ prove_goes (TooLarge Nodes) decision h = alone_goes (TooLarge Nodes) decision h 
 prove_goes (TooLarge Visits) decision h = alone_goes (TooLarge Visits) decision h (λ one. omega (arith, one))
 prove_goes (TooLarge Terms) decision h = alone_goes (TooLarge Terms) decision h (λ one. omega (arith, one))
 prove_goes (TooLarge Variables) decision h = alone_goes (TooLarge Variables) decision h (λ one. omega (arith, one))
+prove_goes (TooLarge Call) decision h = alone_goes (TooLarge Call) decision h (λ one. omega (arith, one))
+prove_goes (TooLarge Steps) decision h = alone_goes (TooLarge Steps) decision h (λ one. omega (arith, one))
+prove_goes (TooLarge Known) decision h = alone_goes (TooLarge Known) decision h (λ one. omega (arith, one))
 prove_goes (RefusedElf fault offset) decision h = alone_goes (RefusedElf fault offset) decision h (λ one. omega (arith, one))
 prove_goes (RefusedC kind offset) decision h = alone_goes (RefusedC kind offset) decision h (λ one. omega (arith, one))
 prove_goes (RefusedPair kind name) decision h = alone_goes (RefusedPair kind name) decision h (λ one. omega (arith, one))

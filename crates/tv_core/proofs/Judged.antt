@@ -21,7 +21,7 @@ use Rattle.cert_run.specs.declared.outcome.Outcome.TheVariants.{Unread, Broken, 
 use Rattle.pair_setup.specs.Answers.{pairs_of}
 use Rattle.pair_setup.specs.declared.outcome.Function.{Function}
 use Rattle.pair_setup.specs.declared.outcome.Pairs.{Pairs as CodePairs}
-use Rattle.report_text_spec.specs.declared.Quantity.TheVariants.{Functions, Certificate}
+use Rattle.tv_limits.specs.declared.Quantity.TheVariants.{Functions, Certificate}
 use Rattle.report_text_spec.specs.Verdict.{Verdict, TooLarge, RefusedWords, RefusedElf, RefusedC, RefusedPair, RefusedCode, RefusedCertificate, NotProof, Checked, Judged, Showed, maximum_of}
 use Rattle.report_text.specs.Verdicts.{verdict_of}
 use Rattle.tv_limits.specs.declared.TheConstants.{MAX_CERTIFICATE_BYTES}

@@ -16,8 +16,9 @@ use Rattle.validity_spec.specs.Source.{IsC}
 use Rattle.c_parse_token.specs.Lists.{list_of}
 use Rattle.report_text.specs.Verdicts.{verdict_of}
 use Rattle.report_text.specs.declared.verdicts.Verdict.{Verdict}
+use Rattle.attempt.specs.declared.refusal.Refusal.{Refusal}
+use Rattle.attempt.specs.declared.refusal.Refusal.TheVariants.{NoMemory}
 use Rattle.tv_base.specs.declared.faults.OutsideFault.{OutsideFault}
-use Rattle.tv_base.specs.declared.faults.OutsideFault.TheVariants.{NoMemory}
 use Rattle.tv_words.specs.Commands.{Command, Prove, Check, Show}
 use Rattle.tv_core_spec.specs.Decisions.{Decision, plain}
 use Rattle.tv_core_spec.specs.Listing.{Task, Verify, names_of}
@@ -70,12 +71,12 @@ pub reads_nothing : (elf c : List ℕ) (command : Command) (before now : DeskSta
 reads_nothing elf c command before now left opened = record { taken = inl left; opened = inl opened }
 
 module _ (files : Contents) (elf c : List ℕ) (command : Command) where
-  refused_verdict : (answer : Result Verdict OutsideFault) → ((task : Task) → IfOk answer (λ v. Judges elf c task (plain (verdict_of v))))
+  refused_verdict : (answer : Result Verdict (Refusal OutsideFault)) → ((task : Task) → IfOk answer (λ v. Judges elf c task (plain (verdict_of v))))
       → ((task : Task) → IfOk answer (λ v. IsSound elf c task (verdict_of v))) → IfOk answer (λ v. JudgesWith files elf c command (plain (verdict_of v)))
   refused_verdict (Ok v) exact sound = with_any_text files elf c command (plain (verdict_of v)) (λ task. (exact task, sound task))
   refused_verdict (Err fault) exact sound = tt
 
-  pub refused_by_any : (answer : Result Verdict OutsideFault) (r : Result CodeDecision OutsideFault) → IsPlainly answer r
+  pub refused_by_any : (answer : Result Verdict (Refusal OutsideFault)) (r : Result CodeDecision (Refusal OutsideFault)) → IsPlainly answer r
       → ((task : Task) → IfOk answer (λ v. Judges elf c task (plain (verdict_of v)))) → ((task : Task) → IfOk answer (λ v. IsSound elf c task (verdict_of v)))
       → IfOk r (λ d. JudgesWith files elf c command (decision_of d))
   refused_by_any answer r is exact sound = plainly_ok (JudgesWith files elf c command) answer r is (refused_verdict answer exact sound)
@@ -84,7 +85,7 @@ module _ (image : Image) (c : List ℕ) (command : Command) (state : DeskState) 
   abbrev JudgesImage : Decision → Type 0
   JudgesImage d = (elf : List ℕ) → IsElf elf image → JudgesWith state.files elf c command d
 
-  judged_refusal : (answer : Result Verdict OutsideFault)
+  judged_refusal : (answer : Result Verdict (Refusal OutsideFault))
       → ((elf : List ℕ) (task : Task) → IsElf elf image → IfOk answer (λ v. Judges elf c task (plain (verdict_of v))))
       → ((elf : List ℕ) (task : Task) → IfOk answer (λ v. IsSound elf c task (verdict_of v))) → IfOk answer (λ v. JudgesImage (plain (verdict_of v)))
   judged_refusal (Ok v) exact sound =
@@ -92,7 +93,7 @@ module _ (image : Image) (c : List ℕ) (command : Command) (state : DeskState) 
   judged_refusal (Err fault) exact sound = tt
 
   -- the source is refused
-  pub by_refusal : (answer : Result Verdict OutsideFault) (r : Result CodeDecision OutsideFault) → IsPlainly answer r
+  pub by_refusal : (answer : Result Verdict (Refusal OutsideFault)) (r : Result CodeDecision (Refusal OutsideFault)) → IsPlainly answer r
       → ((elf : List ℕ) (task : Task) → IsElf elf image → IfOk answer (λ v. Judges elf c task (plain (verdict_of v))))
       → ((elf : List ℕ) (task : Task) → IfOk answer (λ v. IsSound elf c task (verdict_of v))) → OnErr answer (IsErrOf answer NoMemory)
       → JudgesBy image c command state state r
@@ -110,7 +111,7 @@ module _ (image : Image) (c : List ℕ) (command : Command) (state : DeskState) 
   }
 
 -- of a file of the image
-pub of_file : (image : Image) (files : Contents) (elf c : List ℕ) (command : Command) (r : Result CodeDecision OutsideFault) → IsElf elf image
+pub of_file : (image : Image) (files : Contents) (elf c : List ℕ) (command : Command) (r : Result CodeDecision (Refusal OutsideFault)) → IsElf elf image
     → IfOk r (λ d. (other : List ℕ) → IsElf other image → JudgesWith files other c command (decision_of d))
     → IfOk r (λ d. JudgesWith files elf c command (decision_of d))
 of_file image files elf c command r is h =
@@ -134,7 +135,7 @@ lists_all : (elf c : List ℕ) (command : Command) (image : Image) (unit : Typed
     → names ≡ names_of (task_of command []) image unit → (text : List ℕ) → Lists elf c (task_of command text) image unit names
 lists_all elf c command image unit names is_elf is_c e text = record { is_elf = is_elf; is_c = is_c; listed = e ∙ same_list command [] text image unit }
 
-pub by_list : (image : Image) (unit : Typed) (c : List ℕ) (command : Command) (names : List (List ℕ)) (before now : DeskState) (r : Result CodeDecision OutsideFault) → IsC c unit
+pub by_list : (image : Image) (unit : Typed) (c : List ℕ) (command : Command) (names : List (List ℕ)) (before now : DeskState) (r : Result CodeDecision (Refusal OutsideFault)) → IsC c unit
     → names ≡ names_of (task_of command []) image unit → JudgesList image unit command names before now r → JudgesBy image c command before now r
 by_list image unit c command names before now r is_c e h = record {
   judged = IfOk-weaker r (λ d. AnswersList before.files image unit command names (decision_of d))

@@ -8,12 +8,13 @@ use Rattle.c_types_spec.specs.Core.{Typed}
 use Rattle.pair_setup_spec.specs.Outcome.{IsPaired}
 use Rattle.pair_setup.specs.Answers.{pairs_of}
 use Rattle.pair_setup.specs.declared.outcome.Pairs.{Pairs as CodePairs}
-use Rattle.report_text_spec.specs.declared.Quantity.TheVariants.{Functions}
+use Rattle.tv_limits.specs.declared.Quantity.TheVariants.{Functions}
 use Rattle.report_text_spec.specs.Verdict.{maximum_of}
 use Rattle.report_text.specs.Verdicts.{verdict_of}
 use Rattle.report_text.specs.declared.verdicts.Verdict.{Verdict as CodeVerdict}
+use Rattle.attempt.specs.declared.refusal.Refusal.{Refusal}
+use Rattle.attempt.specs.declared.refusal.Refusal.TheVariants.{NoMemory}
 use Rattle.tv_base.specs.declared.faults.OutsideFault.{OutsideFault}
-use Rattle.tv_base.specs.declared.faults.OutsideFault.TheVariants.{NoMemory}
 use Rattle.tv_limits.specs.declared.TheConstants.{MAX_CERTIFICATE_BYTES}
 use Rattle.tv_words.specs.Commands.{Command, Prove, Proving, Check, Checking, Show, Showing}
 use Rattle.tv_core_spec.specs.Decisions.{Decision, plain}
@@ -31,7 +32,7 @@ use Rattle.tv_core.proofs.Plain.{ok_from_memory, only_memory, plain_memory_ok, p
 
 module _ (image : Image) (unit : Typed) (command : Command) (list : List (List ℕ)) where
   -- the desk stays as it is
-  pub judged_here : (state : DeskState) (r : Result CodeDecision OutsideFault) → IfOk r (λ d. AnswersList state.files image unit command list (decision_of d))
+  pub judged_here : (state : DeskState) (r : Result CodeDecision (Refusal OutsideFault)) → IfOk r (λ d. AnswersList state.files image unit command list (decision_of d))
       → OnErr r (IsErrOf r NoMemory) → JudgesList image unit command list state state r
   judged_here state r h memory = record {
     judges = h;
@@ -39,7 +40,7 @@ module _ (image : Image) (unit : Typed) (command : Command) (list : List (List �
     kept = ended_keeps state state r refl refl memory;
   }
 
-  pub judged_paired : (pairs : CodePairs) (before now : DeskState) (r : Result CodeDecision OutsideFault) → length list ≤ maximum_of Functions
+  pub judged_paired : (pairs : CodePairs) (before now : DeskState) (r : Result CodeDecision (Refusal OutsideFault)) → length list ≤ maximum_of Functions
       → IsPaired image unit list (pairs_of list pairs) → AnswersPaired image unit command list (pairs_of list pairs) before now r → JudgesList image unit command list before now r
   judged_paired pairs before now r few paired h = record {
     judges = IfOk-weaker r (λ d. (bytes : List ℕ) × AreBytesOf before.files command bytes × IsAnswer image unit command list (pairs_of list pairs) bytes d)
@@ -56,21 +57,21 @@ module _ (image : Image) (unit : Typed) (command : Command) (list : List (List �
   }
 
   -- an answer that leaves the desk as it is
-  pub answered_here : (pairs : CodePairs) (state : DeskState) (r : Result CodeDecision OutsideFault)
+  pub answered_here : (pairs : CodePairs) (state : DeskState) (r : Result CodeDecision (Refusal OutsideFault))
       → IfOk r (λ d. (bytes : List ℕ) × AreBytesOf state.files command bytes × IsAnswer image unit command list (pairs_of list pairs) bytes d)
       → OnErr r (IsErrOf r NoMemory) → AnswersPaired image unit command list (pairs_of list pairs) state state r
   answered_here pairs state r h memory =
       record { answer = h; taken = inl refl; opened = inl refl; kept = ended_keeps state state r refl refl memory }
 
 -- the same of an equal list
-pub renamed_list : (image : Image) (unit : Typed) (command : Command) (one two : List (List ℕ)) (before now : DeskState) (r : Result CodeDecision OutsideFault) → one ≡ two
+pub renamed_list : (image : Image) (unit : Typed) (command : Command) (one two : List (List ℕ)) (before now : DeskState) (r : Result CodeDecision (Refusal OutsideFault)) → one ≡ two
     → JudgesList image unit command one before now r → JudgesList image unit command two before now r
 renamed_list image unit command one two before now r e h = subst (λ list. JudgesList image unit command list before now r) e h
 
 -- ---- the three commands
 
 module _ (image : Image) (unit : Typed) (command : Command) (list : List (List ℕ)) (pairs : CodePairs) where
-  pub proved_here : (state : DeskState) (job : Proving) (answer : Result CodeDecision AllocError) (r : Result CodeDecision OutsideFault) → command ≡ Prove job
+  pub proved_here : (state : DeskState) (job : Proving) (answer : Result CodeDecision AllocError) (r : Result CodeDecision (Refusal OutsideFault)) → command ≡ Prove job
       → IsFromMemory answer r → IfOk answer (JudgesAll image unit list (pairs_of list pairs)) → AnswersPaired image unit command list (pairs_of list pairs) state state r
   proved_here state job answer r e from h =
       subst (λ k. AnswersPaired image unit k list (pairs_of list pairs) state state r) (sym e)
@@ -79,7 +80,7 @@ module _ (image : Image) (unit : Typed) (command : Command) (list : List (List �
       (λ d. (bytes : List ℕ) × AreBytesOf state.files (Prove job) bytes × IsAnswer image unit (Prove job) list (pairs_of list pairs) bytes d)
       (λ d a. ([], tt, a)) (ok_from_memory (JudgesAll image unit list (pairs_of list pairs)) answer r from h)) (only_memory answer r from))
 
-  pub checked_there : (before now : DeskState) (job : Checking) (r : Result CodeDecision OutsideFault) → command ≡ Check job
+  pub checked_there : (before now : DeskState) (job : Checking) (r : Result CodeDecision (Refusal OutsideFault)) → command ≡ Check job
       → IfOk r (λ d. (bytes : List ℕ) × AreOf before.files job.certificate MAX_CERTIFICATE_BYTES bytes
       × IsCertificateDecision image unit (pairs_of list pairs) bytes (decision_of d))
       → BeginsFile job.certificate MAX_CERTIFICATE_BYTES before now → KeepsDesk before now r → AnswersPaired image unit command list (pairs_of list pairs) before now r
@@ -101,7 +102,7 @@ module _ (image : Image) (unit : Typed) (command : Command) (list : List (List �
       IfOk-weaker answer (λ v. Shows image unit name (verdict_of v)) (λ v. ShowsAt (plain (verdict_of v)))
       (λ v a. (refl, λ d. subst (λ n. Shows image unit n (verdict_of v)) (sym (at d)) a)) h
 
-  pub shown_here : (state : DeskState) (job : Showing) (name : List ℕ) (answer : Result CodeVerdict AllocError) (r : Result CodeDecision OutsideFault) → command ≡ Show job
+  pub shown_here : (state : DeskState) (job : Showing) (name : List ℕ) (answer : Result CodeVerdict AllocError) (r : Result CodeDecision (Refusal OutsideFault)) → command ≡ Show job
       → IsPlainFromMemory answer r → ((d : List ℕ) → get_or list 0 d ≡ name) → IfOk answer (λ v. Shows image unit name (verdict_of v))
       → AnswersPaired image unit command list (pairs_of list pairs) state state r
   shown_here state job name answer r e from at h =

@@ -5,8 +5,8 @@ use Rattle.elf_read_spec.specs.Image.{Image, function_named}
 use Rattle.elf_read_spec.specs.declared.SymbolValues.TheVariants.{One}
 use Rattle.code_reach_spec.specs.Code.{itself}
 use Rattle.code_reach_spec.specs.Faults.{ReachesNoFault, of_function}
-use Rattle.code_reach.specs.declared.faults.CodeError.{CodeError}
-use Rattle.code_reach.specs.declared.faults.CodeError.TheVariants.{Fault}
+use Rattle.attempt.specs.declared.refusal.Refusal.{Refusal}
+use Rattle.attempt.specs.declared.refusal.Refusal.TheVariants.{Fault}
 use Rattle.code_reach.specs.declared.faults.CodeFault.{CodeFault}
 use Rattle.code_reach.specs.Found.{IsCode, IsCodeError, IsFirstFault}
 use Rattle.c_types_spec.specs.Core as core
@@ -19,7 +19,7 @@ use Rattle.tv_core_spec.specs.Verdicts.{IsShown}
 use Rattle.tv_core.specs.Functions.{IsListed}
 
 -- code without a fault has none
-pub no_code_fault : {A : Type 0} (image : Image) (entry : ℕ) (result : Result A CodeError) (error : CodeError) (fault : CodeFault)
+pub no_code_fault : {A : Type 0} (image : Image) (entry : ℕ) (result : Result A (Refusal CodeFault)) (error : Refusal CodeFault) (fault : CodeFault)
     → IfErr result (λ e. IsCodeError image entry e) → result ≡ Err error → error ≡ Fault fault → ReachesNoFault image entry → ⊥
 no_code_fault image entry result error fault h is as_fault sound =
     let told = subst (λ r. IfErr r (λ e. IsCodeError image entry e)) is h in

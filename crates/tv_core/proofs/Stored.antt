@@ -1,8 +1,9 @@
 -- A text that is written under a name.
 use Rattle.std.proofs.Common.{◌≡◌, ◌++◌, ℕ, List, [], Option, None, Some, Ok, Err, length, take, take_all, arith, refl, sym, ap, ◌∙◌, subst, inr}
 use Rattle.std.specs.Prelude.{Result, OnOk, OnErr, IsErrOf, option_map}
+use Rattle.attempt.specs.declared.refusal.Refusal.{Refusal}
+use Rattle.attempt.specs.declared.refusal.Refusal.TheVariants.{NoMemory}
 use Rattle.tv_base.specs.declared.faults.OutsideFault.{OutsideFault}
-use Rattle.tv_base.specs.declared.faults.OutsideFault.TheVariants.{NoMemory}
 use Rattle.tv_base.specs.Faults.{HasCause}
 use Rattle.tv_base.specs.Writing.{Grows, GrowsPartly, IsEmptied}
 use Rattle.tv_core.specs.Objects.{Contents, SinkState}
@@ -18,7 +19,7 @@ becomes before middle now name begun text empty same grows = record {
   elsewhere = λ other apart. grows.elsewhere other (λ at. apart (at ∙ same)) ∙ empty.elsewhere other apart;
 }
 
-pub stored : {T : Type 0} (name text : List ℕ) (before now : SinkState) (held : Contents) (begun : List ℕ) (faults : ℕ) (r : Result T OutsideFault)
+pub stored : {T : Type 0} (name text : List ℕ) (before now : SinkState) (held : Contents) (begun : List ℕ) (faults : ℕ) (r : Result T (Refusal OutsideFault))
     → IsEmptied before.held name held → begun ≡ name → faults ≡ before.faults
     → OnOk r (Grows held begun text now.held) → OnErr r (GrowsPartly held begun text now.held)
     → HasCause faults now.faults r → OnOk r (now.faults ≡ faults) → (IsErrOf r NoMemory → now.faults ≡ faults)
@@ -41,12 +42,12 @@ stored {T = T} name text before now held begun faults (Err f) empty same as_befo
 }
 
 -- the text of a certificate, if there is one
-pub leaves_text : {T : Type 0} (name s t : List ℕ) (given : Option (List ℕ)) (before now : SinkState) (r : Result T OutsideFault) → given ≡ Some t → s ≡ t
+pub leaves_text : {T : Type 0} (name s t : List ℕ) (given : Option (List ℕ)) (before now : SinkState) (r : Result T (Refusal OutsideFault)) → given ≡ Some t → s ≡ t
     → Stores name s before now r → OnOk r (LeavesText name given before.held now.held)
 leaves_text name s t given before now r e same h =
     subst (λ g. OnOk r (LeavesText name g before.held now.held)) (sym e) (subst (λ x. OnOk r (Becomes before.held name x now.held)) same h.ok)
 
-pub leaves_partly : {T : Type 0} (name s t : List ℕ) (given : Option (List ℕ)) (before now : SinkState) (r : Result T OutsideFault) → given ≡ Some t → s ≡ t
+pub leaves_partly : {T : Type 0} (name s t : List ℕ) (given : Option (List ℕ)) (before now : SinkState) (r : Result T (Refusal OutsideFault)) → given ≡ Some t → s ≡ t
     → Stores name s before now r → LeavesTextPartly name given before.held now.held
 leaves_partly name s t given before now r e same h =
     subst (λ g. LeavesTextPartly name g before.held now.held) (sym e) (subst (λ x. BecomesPartly before.held name x now.held) same h.part)

@@ -7,8 +7,9 @@ use Rattle.report_text.specs.Verdicts.{verdict_of}
 use Rattle.report_text.specs.declared.verdicts.Verdict.{Verdict as CodeVerdict}
 use Rattle.prove_run.specs.declared.trails.Trails.{Trails as CodeTrails}
 use Rattle.prove_run.specs.Trails.{unproved_in, over_in, failures_of}
+use Rattle.attempt.specs.declared.refusal.Refusal.{Refusal}
+use Rattle.attempt.specs.declared.refusal.Refusal.TheVariants.{NoMemory}
 use Rattle.tv_base.specs.declared.faults.OutsideFault.{OutsideFault}
-use Rattle.tv_base.specs.declared.faults.OutsideFault.TheVariants.{NoMemory}
 use Rattle.tv_core_spec.specs.Decisions.{Decision, Trails, plain}
 use Rattle.tv_core.specs.declared.decision.Decision.{Decision as CodeDecision}
 
@@ -26,7 +27,7 @@ decision_of d = record {
 }
 
 -- the same decision, or out of memory
-abbrev pub IsFromMemory : Result CodeDecision AllocError → Result CodeDecision OutsideFault → Type 0
+abbrev pub IsFromMemory : Result CodeDecision AllocError → Result CodeDecision (Refusal OutsideFault) → Type 0
 IsFromMemory (Ok decision) result = result ≡ Ok decision
 IsFromMemory (Err error) result = result ≡ Err NoMemory
 
@@ -35,13 +36,13 @@ abbrev pub IsPlain : CodeVerdict → CodeDecision → Type 0
 IsPlain verdict decision = decision_of decision ≡ plain (verdict_of verdict)
 
 -- the same, or the same fault
-abbrev pub IsPlainly : Result CodeVerdict OutsideFault → Result CodeDecision OutsideFault → Type 0
+abbrev pub IsPlainly : Result CodeVerdict (Refusal OutsideFault) → Result CodeDecision (Refusal OutsideFault) → Type 0
 IsPlainly (Err fault) result = result ≡ Err fault
 IsPlainly (Ok verdict) (Ok decision) = IsPlain verdict decision
 IsPlainly (Ok verdict) (Err fault) = ⊥
 
 -- the same, or out of memory
-abbrev pub IsPlainFromMemory : Result CodeVerdict AllocError → Result CodeDecision OutsideFault → Type 0
+abbrev pub IsPlainFromMemory : Result CodeVerdict AllocError → Result CodeDecision (Refusal OutsideFault) → Type 0
 IsPlainFromMemory (Err error) result = result ≡ Err NoMemory
 IsPlainFromMemory (Ok verdict) (Ok decision) = IsPlain verdict decision
 IsPlainFromMemory (Ok verdict) (Err fault) = ⊥

@@ -2,13 +2,15 @@
 use Rattle.std.specs.Prelude.{◌≡◌, ◌≢◌, ◌↔◌, ◌≤◌, ◌<◌, ◌+◌, ◌-◌, ◌⊎◌, ℕ, not, List, [], length, take, drop, map, filter, flat_map, All, Option, Some, None, IfSome, option_map, Result, IfOk, OnOk, OnErr, IsTrue, IsErrOf, ⊤}
 use Rattle.elf_read_spec.specs.Image.{Image}
 use Rattle.c_types_spec.specs.Core.{Typed}
-use Rattle.report_text_spec.specs.declared.Quantity.TheVariants.{Elf, C, Certificate}
+use Rattle.tv_limits.specs.declared.Quantity.TheVariants.{Elf, C, Certificate}
 use Rattle.report_text_spec.specs.Verdict.{Verdict, RefusedWords, TooLarge, RefusedCertificate, NotProof, Checked, Judged, Showed, Judgement, Shown, all_valid, status_of, maximum_of}
 use Rattle.report_text_spec.specs.Report.{report_of, judgements_text, show_text}
 use Rattle.cert_text_spec.specs.Lines.{Line, End, line_text}
-use Rattle.cert_check_spec.specs.declared.RuleFault.TheVariants.{Missing}
+use Rattle.cert_check_spec.specs.declared.RuleWord.TheVariants.{Missing}
+use Rattle.attempt.specs.declared.refusal.Refusal.{Refusal}
+use Rattle.attempt.specs.declared.refusal.Refusal.TheVariants.{Fault, NoMemory}
 use Rattle.tv_base.specs.declared.faults.OutsideFault.{OutsideFault}
-use Rattle.tv_base.specs.declared.faults.OutsideFault.TheVariants.{Failed, NoMemory}
+use Rattle.tv_base.specs.declared.faults.OutsideFault.TheVariants.{Failed}
 use Rattle.tv_base.specs.Faults.{HasCause}
 use Rattle.tv_base.specs.Reading.{with_name}
 use Rattle.tv_base.specs.Writing.{Grows, GrowsPartly}
@@ -145,7 +147,7 @@ abbrev pub LeavesPartly : (name : List ℕ) → Decision → (before now : Conte
 LeavesPartly name decision before now = LeavesTextPartly name decision.certificate before now
 
 -- a call makes this text what is under this name; or, where it fails, a prefix of it
-pub record Stores {T : Type 0} (name text : List ℕ) (before now : SinkState) (result : Result T OutsideFault) : Type 0 where
+pub record Stores {T : Type 0} (name text : List ℕ) (before now : SinkState) (result : Result T (Refusal OutsideFault)) : Type 0 where
   pub ok : OnOk result (Becomes before.held name text now.held)
   pub part : BecomesPartly before.held name text now.held
   pub cause : HasCause before.faults now.faults result
@@ -170,7 +172,7 @@ abbrev pub StoresFirst : (before now : Outputs) → Type 0
 StoresFirst before now = (now.store.faults ≡ before.store.faults) ⊎ (now.report.held ≡ before.report.held)
 
 -- the certificate and then the report of a decision were written, or partly
-pub record Publishes {T : Type 0} (name : List ℕ) (decision : Decision) (before now : Outputs) (result : Result T OutsideFault) : Type 0 where
+pub record Publishes {T : Type 0} (name : List ℕ) (decision : Decision) (before now : Outputs) (result : Result T (Refusal OutsideFault)) : Type 0 where
   pub reported : OnOk result (Reports decision.verdict before.report now.report)
   pub stored : OnOk result (LeavesUnder name decision before.store.held now.store.held)
   pub part : OnErr result (PublishesPartly name decision before now)
@@ -178,7 +180,7 @@ pub record Publishes {T : Type 0} (name : List ℕ) (decision : Decision) (befor
   pub store_first : StoresFirst before now
   pub report_later : before.report.faults ≤ now.report.faults
   pub store_later : before.store.faults ≤ now.store.faults
-  pub failed : IsErrOf result Failed → OutputsRose before now
+  pub failed : IsErrOf result (Fault Failed) → OutputsRose before now
   pub unfailing : OnOk result (SameOutputFaults before now)
   pub no_memory : IsErrOf result NoMemory → SameOutputFaults before now
 
@@ -388,7 +390,7 @@ pub record Ends (words : List (List ℕ)) (before now : State) (trails : Trails)
   pub safely : EndsSafely status before now
 
 -- a run up to its status, or up to what cut it off
-pub record RunsTo (words : List (List ℕ)) (before now : State) (trails_before trails_now : Trails) (result : Result ℕ OutsideFault) : Type 0 where
+pub record RunsTo (words : List (List ℕ)) (before now : State) (trails_before trails_now : Trails) (result : Result ℕ (Refusal OutsideFault)) : Type 0 where
   pub ended : IfOk result (λ status. EndsWith words before.desk.files status before.outputs now.outputs trails_now)
   pub trails_kept : OnErr result (trails_now ≡ trails_before)
   pub part : OnErr result (EndsPartly words before.desk.files before.outputs now.outputs)
@@ -397,6 +399,6 @@ pub record RunsTo (words : List (List ℕ)) (before now : State) (trails_before 
   pub taken : TakesLittle words before.desk.files before.desk.left now.desk.left
   pub opened : OpensInOrder words before.desk.files before.desk.opened now.desk.opened
   pub same_files : now.desk.files ≡ before.desk.files
-  pub failed : IsErrOf result Failed → AnyRose before now
+  pub failed : IsErrOf result (Fault Failed) → AnyRose before now
   pub unfailing : OnOk result (SameFaults before now)
   pub no_memory : IsErrOf result NoMemory → SameFaults before now

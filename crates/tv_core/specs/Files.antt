@@ -3,11 +3,12 @@ use Rattle.std.specs.Prelude.{◌≡◌, ◌≤◌, ◌<◌, ◌+◌, ◌⊎◌,
 use Rattle.std.specs.Global.{Global}
 use Rattle.elf_read_spec.specs.Image.{Image}
 use Rattle.elf_read_spec.specs.File.{IsElf}
-use Rattle.report_text_spec.specs.declared.Quantity.TheVariants.{C}
+use Rattle.tv_limits.specs.declared.Quantity.TheVariants.{C}
 use Rattle.report_text_spec.specs.Verdict.{TooLarge}
 use Rattle.tv_limits.specs.declared.TheConstants.{MAX_ELF_BYTES, MAX_C_BYTES, MAX_CERTIFICATE_BYTES}
+use Rattle.attempt.specs.declared.refusal.Refusal.{Refusal}
+use Rattle.attempt.specs.declared.refusal.Refusal.TheVariants.{NoMemory}
 use Rattle.tv_base.specs.declared.faults.OutsideFault.{OutsideFault}
-use Rattle.tv_base.specs.declared.faults.OutsideFault.TheVariants.{NoMemory}
 use Rattle.tv_base.specs.Faults.{HasCause}
 use Rattle.tv_base.specs.Reading.{with_name}
 use Rattle.c_types_spec.specs.Core.{Typed}
@@ -21,7 +22,7 @@ use Rattle.tv_core.specs.declared.decision.Decision.{Decision as CodeDecision}
 use Rattle.tv_core.specs.Ends.{IsText, IsOfCommand, IsVerdictOn, TakesAtMost, NeedsCertificate, TakesOfFiles, OpensOfFiles, TakesLittle, OpensInOrder}
 
 -- a call keeps the files of a desk, and its count of faults rises exactly with a failure
-pub record KeepsDesk {T : Type 0} (before now : DeskState) (result : Result T OutsideFault) : Type 0 where
+pub record KeepsDesk {T : Type 0} (before now : DeskState) (result : Result T (Refusal OutsideFault)) : Type 0 where
   pub same_files : now.files ≡ before.files
   pub cause : HasCause before.faults now.faults result
   pub unfailing : OnOk result (now.faults ≡ before.faults)
@@ -32,7 +33,7 @@ abbrev pub AreOf : Contents → (name : List ℕ) → (maximum : ℕ) → (bytes
 AreOf files name maximum bytes = IfSome (files name) (λ text. bytes ≡ take (maximum + 1) text)
 
 -- a file of a desk is begun, and so much of it is read
-pub record ReadsFile (name : List ℕ) (maximum : ℕ) (before now : DeskState) (result : Result (Vec ℕ Global) OutsideFault) : Type 0 where
+pub record ReadsFile (name : List ℕ) (maximum : ℕ) (before now : DeskState) (result : Result (Vec ℕ Global) (Refusal OutsideFault)) : Type 0 where
   pub bytes : IfOk result (λ bytes. AreOf before.files name maximum bytes.items)
   pub taken : TakesAtMost before.files name (maximum + 1) before.left now.left
   pub opened : OnOk result (now.opened ≡ with_name before.opened name)
@@ -80,7 +81,7 @@ ReadsAfter elf c command before now =
     ((now.left ≡ before.left) × (now.opened ≡ before.opened)) ⊎ ((length c ≤ MAX_C_BYTES) × ReadsCertificate elf c command before now)
 
 -- what a command decides of an executable of this image and a source; its certificate is read, if it is needed
-pub record JudgesBy (image : Image) (c : List ℕ) (command : Command) (before now : DeskState) (result : Result CodeDecision OutsideFault) : Type 0 where
+pub record JudgesBy (image : Image) (c : List ℕ) (command : Command) (before now : DeskState) (result : Result CodeDecision (Refusal OutsideFault)) : Type 0 where
   pub judged : IfOk result (λ decision. (elf : List ℕ) → IsElf elf image → JudgesWith before.files elf c command (decision_of decision))
   pub reads : (elf : List ℕ) → IsElf elf image → ReadsCertificate elf c command before now
   pub kept : KeepsDesk before now result

@@ -6,7 +6,7 @@ use Rattle.c_types_spec.specs.Core.{Typed}
 use Rattle.validity_spec.specs.Claim.{IsValid}
 use Rattle.pair_setup_spec.specs.Outcome.{IsPairFault, IsCodeFault, IsTooLarge}
 use Rattle.pair_setup_spec.specs.Outcome as outcome
-use Rattle.report_text_spec.specs.declared.Quantity.TheVariants.{Nodes, Certificate}
+use Rattle.tv_limits.specs.declared.Quantity.TheVariants.{Nodes, Certificate}
 use Rattle.report_text_spec.specs.Verdict.{Verdict, TooLarge, RefusedPair, RefusedCode, RefusedCertificate, NotProof, Checked, Judged, Showed, Judgement}
 use Rattle.cert_check_spec.specs.Verdict.{Listed}
 use Rattle.cert_run_spec.specs.Files.{AreListed}
@@ -20,12 +20,13 @@ use Rattle.cert_run.specs.declared.outcome.Outcome.TheVariants.{Unread, Broken, 
 use Rattle.report_text.specs.Verdicts.{verdict_of}
 use Rattle.report_text.specs.declared.verdicts.Verdict.{Verdict as CodeVerdict}
 use Rattle.pair_setup.specs.declared.outcome.Function.{Function}
+use Rattle.attempt.specs.declared.refusal.Refusal.{Refusal}
 use Rattle.tv_base.specs.declared.faults.OutsideFault.{OutsideFault}
 use Rattle.tv_limits.specs.declared.TheConstants.{MAX_CERTIFICATE_BYTES}
 use Rattle.tv_base.specs.Reading.{with_name}
 use Rattle.tv_words.specs.Commands.{Command, Prove, Check, Show}
 use Rattle.tv_core_spec.specs.Decisions.{Decision, Trails, plain, judgements_of, judged_by, over_by}
-use Rattle.tv_core_spec.specs.Verdicts.{IsShown, Lists, quantity_of, verdict_of_outcome}
+use Rattle.tv_core_spec.specs.Verdicts.{IsShown, Lists, verdict_of_outcome}
 use Rattle.tv_core.specs.Tasks.{asked_of, task_of}
 use Rattle.tv_core.specs.Objects.{Contents, DeskState}
 use Rattle.tv_core.specs.Decisions.{decision_of, trails_of}
@@ -114,7 +115,7 @@ JudgesAll image unit list pairs decision = AreDecided image unit list pairs (dec
 abbrev pub outcome_verdict : (list : List (List ℕ)) → List Function → CodeOutcome → Verdict
 outcome_verdict list functions (Unread offset) = RefusedCertificate offset
 outcome_verdict list functions (Broken name offset rule) = NotProof name offset rule
-outcome_verdict list functions (Above quantity) = TooLarge (quantity_of quantity)
+outcome_verdict list functions (Above quantity) = TooLarge quantity
 outcome_verdict list functions Proof = Checked (judged list functions (map (λ f. true) functions))
 
 abbrev pub IsOfOutcome : (list : List (List ℕ)) → List Function → CodeOutcome → CodeVerdict → Type 0
@@ -134,7 +135,7 @@ AreBytesOf files (Check job) bytes = AreOf files job.certificate MAX_CERTIFICATE
 AreBytesOf files (Show job) bytes = ⊤
 
 pub record AnswersPaired (image : Image) (unit : Typed) (command : Command) (list : List (List ℕ)) (pairs : outcome.Pairs) (before now : DeskState)
-    (result : Result CodeDecision OutsideFault) : Type 0 where
+    (result : Result CodeDecision (Refusal OutsideFault)) : Type 0 where
   pub answer : IfOk result (λ decision. (bytes : List ℕ) × AreBytesOf before.files command bytes × IsAnswer image unit command list pairs bytes decision)
   pub taken : (now.left ≡ before.left)
       ⊎ ((name : List ℕ) × ((asked_of command).given ≡ Some name) × TakesAtMost before.files name (MAX_CERTIFICATE_BYTES + 1) before.left now.left)
@@ -142,7 +143,7 @@ pub record AnswersPaired (image : Image) (unit : Typed) (command : Command) (lis
   pub kept : KeepsDesk before now result
 
 pub record JudgesList (image : Image) (unit : Typed) (command : Command) (list : List (List ℕ)) (before now : DeskState)
-    (result : Result CodeDecision OutsideFault) : Type 0 where
+    (result : Result CodeDecision (Refusal OutsideFault)) : Type 0 where
   pub judges : IfOk result (λ decision. AnswersList before.files image unit command list (decision_of decision))
   pub reads : (elf c : List ℕ) → ((text : List ℕ) → Lists elf c (task_of command text) image unit list) → ReadsCertificate elf c command before now
   pub kept : KeepsDesk before now result

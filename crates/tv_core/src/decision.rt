@@ -2,6 +2,7 @@
 
 ghost use Rattle.tv_core.specs.Decisions.{IsFromMemory, IsPlain, IsPlainFromMemory, IsPlainly};
 
+use attempt::Refusal;
 use prove_run::Trails;
 use report_text::Verdict;
 use std::alloc::{AllocError, Global};
@@ -31,8 +32,8 @@ pub(crate) fn plain(alloc: Global, verdict: Verdict) -> Decision
 /// The same of an answer of a call with input and output.
 pub(crate) fn plainly(
     alloc: Global,
-    answer: Result<Verdict, OutsideFault>,
-) -> Result<Decision, OutsideFault>
+    answer: Result<Verdict, Refusal<OutsideFault>>,
+) -> Result<Decision, Refusal<OutsideFault>>
     ensures { IsPlainly answer result }
 {
     match answer {
@@ -45,21 +46,23 @@ pub(crate) fn plainly(
 pub(crate) fn plain_from_memory(
     alloc: Global,
     answer: Result<Verdict, AllocError>,
-) -> Result<Decision, OutsideFault>
+) -> Result<Decision, Refusal<OutsideFault>>
     ensures { IsPlainFromMemory answer result }
 {
     match answer {
         Ok(verdict) => Ok(plain(alloc, verdict)),
-        Err(_) => Err(OutsideFault::NoMemory),
+        Err(_) => Err(Refusal::NoMemory),
     }
 }
 
 /// An answer that fails only out of memory, as one of a call with input and output.
-pub(crate) fn from_memory(answer: Result<Decision, AllocError>) -> Result<Decision, OutsideFault>
+pub(crate) fn from_memory(
+    answer: Result<Decision, AllocError>,
+) -> Result<Decision, Refusal<OutsideFault>>
     ensures { IsFromMemory answer result }
 {
     match answer {
         Ok(decision) => Ok(decision),
-        Err(_) => Err(OutsideFault::NoMemory),
+        Err(_) => Err(Refusal::NoMemory),
     }
 }

@@ -9,11 +9,11 @@ ghost use Rattle.tv_core.specs.Files.{ReadsAfter, ReadsFiles, ReadsSource};
 
 use crate::decision::{Decision, plain};
 use crate::judge::judge;
+use attempt::Refusal;
 use report_text::Verdict;
-use report_text_spec::Quantity;
 use std::alloc::Global;
 use tv_base::{Desk, Notes, OutsideFault, read_up_to};
-use tv_limits::{MAX_C_BYTES, MAX_ELF_BYTES};
+use tv_limits::{MAX_C_BYTES, MAX_ELF_BYTES, Quantity};
 use tv_words::Job;
 
 /// The name of the executable.
@@ -44,7 +44,7 @@ pub(crate) fn read_file<D: Desk>(
     desk: &mut D,
     name: &str,
     maximum: usize,
-) -> Result<Vec<u8>, OutsideFault>
+) -> Result<Vec<u8>, Refusal<OutsideFault>>
     requires { maximum < 2 ^ 32 }
     ensures reads { ReadsFile name.now maximum
         (desk_state (D.bytes desk.old) (D.left desk.old) (D.opened desk.old) (D.faults desk.old))
@@ -69,7 +69,7 @@ fn judge_read<D: Desk, N: Notes>(
     source: &[u8],
     desk: &mut D,
     notes: &mut N,
-) -> Result<Decision, OutsideFault>
+) -> Result<Decision, Refusal<OutsideFault>>
     ensures judged { IfOk result (λ decision. JudgesRead (D.bytes desk.old) elf.now source.now
         (job_of job.now) (decision_of decision)) }
     ensures reads { ReadsAfter elf.now source.now (job_of job.now)
@@ -93,7 +93,7 @@ fn judge_with_elf<D: Desk, N: Notes>(
     desk: &mut D,
     elf: &[u8],
     notes: &mut N,
-) -> Result<Decision, OutsideFault>
+) -> Result<Decision, Refusal<OutsideFault>>
     requires { AreOf (D.bytes desk.old) (asked_of (job_of job.now)).elf ELF_BYTES elf.now }
     ensures judged { IfOk result (λ decision. JudgesFiles (D.bytes desk.old) (job_of job.now)
         (decision_of decision)) }
@@ -121,7 +121,7 @@ pub(crate) fn judge_files<D: Desk, N: Notes>(
     job: &Job<'_>,
     desk: &mut D,
     notes: &mut N,
-) -> Result<Decision, OutsideFault>
+) -> Result<Decision, Refusal<OutsideFault>>
     ensures judged { IfOk result (λ decision. JudgesFiles (D.bytes desk.old) (job_of job.now)
         (decision_of decision)) }
     ensures reads { ReadsFiles (job_of job.now)

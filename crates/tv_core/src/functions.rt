@@ -7,7 +7,7 @@ ghost use Rattle.pair_setup_calls.specs.Names.{names_of, texts_of};
 ghost use Rattle.pair_setup.specs.Answers.{IsNamed, IsPairError, pairs_of};
 ghost use Rattle.report_text.specs.Judgements.{judgement_of, judgements_of};
 ghost use Rattle.report_text.specs.Verdicts.{verdict_of};
-ghost use Rattle.tv_base.specs.declared.faults.OutsideFault.TheVariants.{NoMemory};
+ghost use Rattle.attempt.specs.declared.refusal.Refusal.TheVariants.{NoMemory};
 ghost use Rattle.tv_limits.specs.declared.TheConstants.{
   MAX_CERTIFICATE_BYTES as CERTIFICATE_BYTES,
 };
@@ -26,20 +26,18 @@ ghost use Rattle.tv_core.specs.Functions.{IsListed};
 
 use crate::decision::{Decision, from_memory, plain, plain_from_memory};
 use crate::files::read_file;
-use attempt::attempt;
+use attempt::{Refusal, attempt};
 use c_types::typed::Typed;
-use cert_check_spec::Quantity as CheckQuantity;
 use cert_run::{Outcome, Search, check, prove};
-use code_reach::{CodeError, code};
+use code_reach::code;
 use elf_read::Image;
-use pair_setup::{Function, Named, PairError, Pairs, pair};
+use pair_setup::{Function, Named, PairFault, Pairs, pair};
 use pair_setup_calls::name_at;
 use prove_run::Trails;
 use report_text::{Judgement, Shown, Verdict};
-use report_text_spec::Quantity;
 use std::alloc::{AllocError, Global};
 use tv_base::{Bytes, Desk, Notes, OutsideFault};
-use tv_limits::{MAX_CERTIFICATE_BYTES, MAX_FUNCTIONS};
+use tv_limits::{MAX_CERTIFICATE_BYTES, MAX_FUNCTIONS, Quantity};
 use tv_words::Job;
 
 /// The judgement on a function.
@@ -150,17 +148,6 @@ fn judge_all<N: Notes>(
     decide(alloc, list, pairs.functions.as_slice(), search)
 }
 
-/// The quantity of a run.
-fn quantity_of(quantity: CheckQuantity) -> Quantity
-    ensures { result ≡ spec.quantity_of quantity }
-{
-    match quantity {
-        CheckQuantity::Visits => Quantity::Visits,
-        CheckQuantity::Terms => Quantity::Terms,
-        CheckQuantity::Variables => Quantity::Variables,
-    }
-}
-
 /// The judgements that all functions of a list are valid.
 fn all_valid(
     alloc: Global,
@@ -200,7 +187,7 @@ fn certificate_verdict(
             offset,
             rule,
         }),
-        Outcome::Above(quantity) => Ok(Verdict::TooLarge(quantity_of(quantity))),
+        Outcome::Above(quantity) => Ok(Verdict::TooLarge(quantity)),
         Outcome::Proof => {
             let judgements = attempt!(all_valid(alloc, list, functions));
             Ok(Verdict::Checked(judgements))
@@ -238,7 +225,7 @@ fn check_all<D: Desk>(
     pairs: &Pairs,
     name: &str,
     desk: &mut D,
-) -> Result<Decision, OutsideFault>
+) -> Result<Decision, Refusal<OutsideFault>>
     requires { CanRun image.now (typed_of unit.now) (texts_of list.now)
         (pairs_of (texts_of list.now) pairs.now) }
     ensures judged { IfOk result (λ decision. (bytes : List ℕ) × AreOf (D.bytes desk.old) name.now
@@ -276,8 +263,8 @@ fn show_function(
 {
     let words = match code(alloc, image, function.entry) {
         Ok(words) => words,
-        Err(CodeError::Fault(_)) => unreachable!(),
-        Err(CodeError::NoMemory) => return Err(AllocError),
+        Err(Refusal::Fault(_)) => unreachable!(),
+        Err(Refusal::NoMemory) => return Err(AllocError),
     };
     let counts = unit.counts(name).unwrap();
     let name = attempt!(Bytes::copied(alloc, name));
@@ -303,7 +290,7 @@ fn judge_paired<D: Desk, N: Notes>(
     pairs: &Pairs,
     desk: &mut D,
     notes: &mut N,
-) -> Result<Decision, OutsideFault>
+) -> Result<Decision, Refusal<OutsideFault>>
     requires run { CanRun image.now (typed_of unit.now) (texts_of list.now)
         (pairs_of (texts_of list.now) pairs.now) }
     requires some { 0 < length list.now }
@@ -346,7 +333,7 @@ fn refused(
     image: &Image<'_>,
     unit: &Typed<'_>,
     list: &[&[u8]],
-    error: PairError,
+    error: Refusal<PairFault>,
 ) -> Result<Verdict, AllocError>
     requires { IsPairError image.now (typed_of unit.now) (names_of unit.now) (texts_of list.now)
         error }
@@ -354,11 +341,11 @@ fn refused(
         (verdict_of verdict)) }
 {
     match error {
-        PairError::Refused(kind, named) => {
+        Refusal::Fault(PairFault::Refused(kind, named)) => {
             let name = attempt!(name_of(alloc, unit, list, named));
             Ok(Verdict::RefusedPair { kind, name })
         }
-        PairError::Code(fault, index) => {
+        Refusal::Fault(PairFault::Code(fault, index)) => {
             let name = attempt!(Bytes::copied(alloc, list[index]));
             Ok(Verdict::RefusedCode {
                 kind: fault.kind,
@@ -366,8 +353,8 @@ fn refused(
                 address: fault.address,
             })
         }
-        PairError::Nodes => Ok(Verdict::TooLarge(Quantity::Nodes)),
-        PairError::NoMemory => Err(AllocError),
+        Refusal::Fault(PairFault::Nodes) => Ok(Verdict::TooLarge(Quantity::Nodes)),
+        Refusal::NoMemory => Err(AllocError),
     }
 }
 
@@ -380,7 +367,7 @@ fn judge_list<D: Desk, N: Notes>(
     list: &[&[u8]],
     desk: &mut D,
     notes: &mut N,
-) -> Result<Decision, OutsideFault>
+) -> Result<Decision, Refusal<OutsideFault>>
     requires read { IsRead image.now }
     requires typed { IsTypedUnit (typed_of unit.now) }
     requires sizes { UnitSizes (typed_of unit.now) }
@@ -416,7 +403,7 @@ pub(crate) fn judge_names<D: Desk, N: Notes>(
     names: &[Bytes],
     desk: &mut D,
     notes: &mut N,
-) -> Result<Decision, OutsideFault>
+) -> Result<Decision, Refusal<OutsideFault>>
     requires read { IsRead image.now }
     requires typed { IsTypedUnit (typed_of unit.now) }
     requires sizes { UnitSizes (typed_of unit.now) }
@@ -428,6 +415,6 @@ pub(crate) fn judge_names<D: Desk, N: Notes>(
     if names.len() > MAX_FUNCTIONS {
         return Ok(plain(alloc, Verdict::TooLarge(Quantity::Functions)));
     }
-    let list = attempt!(texts(alloc, names), OutsideFault::NoMemory);
+    let list = attempt!(texts(alloc, names), Refusal::NoMemory);
     judge_list(alloc, image, unit, job, list.as_slice(), desk, notes)
 }

@@ -2,7 +2,7 @@ ghost use Rattle.std.specs.Prelude.{ℕ, List, Err, IfOk, OnErr, IsErrOf};
 ghost use Rattle.elf_read_spec.specs.Image.{Image as elf_image};
 ghost use Rattle.elf_read_spec.specs.File.{IsElf};
 ghost use Rattle.elf_read.specs.Refusal as file;
-ghost use Rattle.tv_base.specs.declared.faults.OutsideFault.TheVariants.{NoMemory};
+ghost use Rattle.attempt.specs.declared.refusal.Refusal.TheVariants.{NoMemory};
 ghost use Rattle.report_text.specs.Verdicts.{verdict_of};
 ghost use Rattle.tv_words.specs.Jobs.{job_of};
 ghost use Rattle.tv_core.specs.Decisions.{decision_of};
@@ -29,16 +29,16 @@ ghost use Rattle.tv_core.specs.Files.{JudgesBy, JudgesWith, KeepsDesk, ReadsCert
 use crate::decision::{Decision, plainly};
 use crate::functions::judge_names;
 use crate::listing::names;
-use attempt::attempt;
-use c_parse::{ParseError, definition_in, parse};
+use attempt::{Refusal, attempt};
+use c_parse::{ParseFault, definition_in, parse};
 use c_syntax::unit::TranslationUnit;
-use c_token::{Token, TokenError, tokens};
-use c_types::typed::{TypeError, Typed};
+use c_token::{Token, TokenFault, tokens};
+use c_types::typed::{TypeFault, Typed};
 use c_types::unit::check;
 use c_types_laws::laws::{cores_have_small_sizes, cores_of_units_are_typed};
 use c_types_spec::{LeftOut, TypeFaultKind};
 use cert_run::image_is_read;
-use elf_read::{ElfError, Image};
+use elf_read::{ElfFault, Image};
 use report_text::Verdict;
 use report_text_spec::SourceKind;
 use std::alloc::Global;
@@ -53,7 +53,7 @@ pub(crate) fn judge<D: Desk, N: Notes>(
     job: &Job<'_>,
     desk: &mut D,
     notes: &mut N,
-) -> Result<Decision, OutsideFault>
+) -> Result<Decision, Refusal<OutsideFault>>
     ensures judged { IfOk result (λ decision. JudgesWith (D.bytes desk.old) elf.now source.now
         (job_of job.now) (decision_of decision)) }
     ensures reads { ReadsCertificate elf.now source.now (job_of job.now)
@@ -82,7 +82,7 @@ fn judge_source<D: Desk, N: Notes>(
     job: &Job<'_>,
     desk: &mut D,
     notes: &mut N,
-) -> Result<Decision, OutsideFault>
+) -> Result<Decision, Refusal<OutsideFault>>
     requires { IsRead image.now }
     ensures { JudgesBy image.now source.now (job_of job.now)
         (desk_state (D.bytes desk.old) (D.left desk.old) (D.opened desk.old) (D.faults desk.old))
@@ -104,7 +104,7 @@ fn judge_tokens<D: Desk, N: Notes>(
     job: &Job<'_>,
     desk: &mut D,
     notes: &mut N,
-) -> Result<Decision, OutsideFault>
+) -> Result<Decision, Refusal<OutsideFault>>
     requires read { IsRead image.now }
     requires lexes { AreTokens source.now (list_of lexed.now) }
     ensures { JudgesBy image.now source.now (job_of job.now)
@@ -128,7 +128,7 @@ fn judge_parsed<D: Desk, N: Notes>(
     job: &Job<'_>,
     desk: &mut D,
     notes: &mut N,
-) -> Result<Decision, OutsideFault>
+) -> Result<Decision, Refusal<OutsideFault>>
     requires read { IsRead image.now }
     requires lexes { AreTokens source.now (list_of lexed.now) }
     requires derives { HasTree source.now (tree_of tree.now) }
@@ -153,7 +153,7 @@ fn judge_tree<D: Desk, N: Notes>(
     job: &Job<'_>,
     desk: &mut D,
     notes: &mut N,
-) -> Result<Decision, OutsideFault>
+) -> Result<Decision, Refusal<OutsideFault>>
     requires read { IsRead image.now }
     requires derives { HasTree source.now (tree_of tree.now) }
     requires defines { DefinesNothing source.now }
@@ -179,7 +179,7 @@ fn judge_unit<D: Desk, N: Notes>(
     job: &Job<'_>,
     desk: &mut D,
     notes: &mut N,
-) -> Result<Decision, OutsideFault>
+) -> Result<Decision, Refusal<OutsideFault>>
     requires read { IsRead image.now }
     requires typed { IsTypedUnit (typed_of unit.now) }
     requires sizes { UnitSizes (typed_of unit.now) }
@@ -188,12 +188,12 @@ fn judge_unit<D: Desk, N: Notes>(
         (desk_state (D.bytes desk.new) (D.left desk.new) (D.opened desk.new) (D.faults desk.new))
         result }
 {
-    let names = attempt!(names(alloc, job, image, unit), OutsideFault::NoMemory);
+    let names = attempt!(names(alloc, job, image, unit), Refusal::NoMemory);
     judge_names(alloc, image, unit, job, names.as_slice(), desk, notes)
 }
 
 /// The verdict where there is an image and the source has no tokens.
-fn without_tokens(error: TokenError) -> Result<Verdict, OutsideFault>
+fn without_tokens(error: Refusal<TokenFault>) -> Result<Verdict, Refusal<OutsideFault>>
     ensures exact { (elf c : List ℕ) (task : Task) (image : elf_image)
         → IsElf elf image → token.IsFaultOf c error
         → IfOk result (λ verdict. Judges elf c task (plain (verdict_of verdict))) }
@@ -202,20 +202,20 @@ fn without_tokens(error: TokenError) -> Result<Verdict, OutsideFault>
     ensures memory { OnErr result (IsErrOf result NoMemory) }
 {
     match error {
-        TokenError::Fault(fault) => Ok(Verdict::RefusedC {
+        Refusal::Fault(fault) => Ok(Verdict::RefusedC {
             kind: SourceKind::Token(fault.kind),
             offset: fault.offset,
         }),
-        TokenError::NoMemory => Err(OutsideFault::NoMemory),
+        Refusal::NoMemory => Err(Refusal::NoMemory),
     }
 }
 
 /// The verdict where there is an image and the tokens of the source are no unit.
 fn without_unit(
-    error: ParseError,
+    error: Refusal<ParseFault>,
     tokens: &[Token<'_>],
     source: &[u8],
-) -> Result<Verdict, OutsideFault>
+) -> Result<Verdict, Refusal<OutsideFault>>
     ensures exact { (elf : List ℕ) (task : Task) (image : elf_image)
         → IsElf elf image → AreTokens source.now (list_of tokens.now)
         → syntax.IsFaultOf (list_of tokens.now) error
@@ -225,17 +225,17 @@ fn without_unit(
     ensures memory { OnErr result (IsErrOf result NoMemory) }
 {
     match error {
-        ParseError::Fault(fault) => Ok(Verdict::RefusedC {
+        Refusal::Fault(fault) => Ok(Verdict::RefusedC {
             kind: SourceKind::Syntax(fault.kind),
             offset: fault.offset(tokens, source.len()),
         }),
-        ParseError::NoMemory => Err(OutsideFault::NoMemory),
+        Refusal::NoMemory => Err(Refusal::NoMemory),
     }
 }
 
 /// The verdict where there is an image and the source defines something within an initial value of
 /// a global, at this offset first.
-fn with_definition(offset: usize) -> Result<Verdict, OutsideFault>
+fn with_definition(offset: usize) -> Result<Verdict, Refusal<OutsideFault>>
     ensures exact { (elf c : List ℕ) (task : Task) (image : elf_image)
         (tree : translation_unit) → IsElf elf image → HasTree c tree → DefinesIn c offset
         → IfOk result (λ verdict. Judges elf c task (plain (verdict_of verdict))) }
@@ -250,7 +250,7 @@ fn with_definition(offset: usize) -> Result<Verdict, OutsideFault>
 }
 
 /// The verdict where there is no image.
-fn refused_elf(error: ElfError) -> Result<Verdict, OutsideFault>
+fn refused_elf(error: Refusal<ElfFault>) -> Result<Verdict, Refusal<OutsideFault>>
     ensures exact { (elf c : List ℕ) (task : Task) → file.IsRefusal elf error
         → IfOk result (λ verdict. Judges elf c task (plain (verdict_of verdict))) }
     ensures sound { (elf c : List ℕ) (task : Task)
@@ -258,16 +258,16 @@ fn refused_elf(error: ElfError) -> Result<Verdict, OutsideFault>
     ensures memory { OnErr result (IsErrOf result NoMemory) }
 {
     match error {
-        ElfError::Fault(fault) => Ok(Verdict::RefusedElf {
+        Refusal::Fault(fault) => Ok(Verdict::RefusedElf {
             kind: fault.kind,
             offset: fault.offset,
         }),
-        ElfError::NoMemory => Err(OutsideFault::NoMemory),
+        Refusal::NoMemory => Err(Refusal::NoMemory),
     }
 }
 
 /// The verdict where there is an image and the tree of the source has no types.
-fn without_types(error: TypeError) -> Result<Verdict, OutsideFault>
+fn without_types(error: Refusal<TypeFault>) -> Result<Verdict, Refusal<OutsideFault>>
     ensures exact { (elf c : List ℕ) (task : Task) (image : elf_image)
         (tree : translation_unit) → IsElf elf image → HasTree c tree → DefinesNothing c
         → IsChecked (Err error) (typed tree)
@@ -277,10 +277,10 @@ fn without_types(error: TypeError) -> Result<Verdict, OutsideFault>
     ensures memory { OnErr result (IsErrOf result NoMemory) }
 {
     match error {
-        TypeError::Fault(kind, offset) => Ok(Verdict::RefusedC {
+        Refusal::Fault(TypeFault::At(kind, offset)) => Ok(Verdict::RefusedC {
             kind: SourceKind::Typing(kind),
             offset,
         }),
-        TypeError::NoMemory => Err(OutsideFault::NoMemory),
+        Refusal::NoMemory => Err(Refusal::NoMemory),
     }
 }

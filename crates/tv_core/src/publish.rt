@@ -1,18 +1,18 @@
 ghost use Rattle.std.specs.Prelude.{◌≡◌, OnOk, IsErrOf};
-ghost use Rattle.tv_base.specs.declared.faults.OutsideFault.TheVariants.{NoMemory};
+ghost use Rattle.attempt.specs.declared.refusal.Refusal.TheVariants.{NoMemory};
 ghost use Rattle.tv_base.specs.Faults.{HasCause};
 ghost use Rattle.tv_core.specs.Decisions.{decision_of, text_in};
 ghost use Rattle.tv_core.specs.Objects.{outputs_of, sink_state};
 ghost use Rattle.tv_core.specs.Ends.{LeavesText, LeavesTextPartly, Stores, Publishes};
 
 use crate::decision::Decision;
-use attempt::attempt;
+use attempt::{Refusal, attempt};
 use report_text::report;
 use std::alloc::Global;
 use tv_base::{OutsideFault, Sink, Store, write_all};
 
 /// Writes a text under a name.
-fn store_text<K: Store>(name: &str, text: &[u8], store: &mut K) -> Result<(), OutsideFault>
+fn store_text<K: Store>(name: &str, text: &[u8], store: &mut K) -> Result<(), Refusal<OutsideFault>>
     ensures { Stores name.now text.now
         (sink_state (K.held store.old) (K.begun store.old) (K.faults store.old))
         (sink_state (K.held store.new) (K.begun store.new) (K.faults store.new)) result }
@@ -28,7 +28,7 @@ fn store_certificate<K: Store>(
     name: &str,
     certificate: &Option<Vec<u8>>,
     store: &mut K,
-) -> Result<(), OutsideFault>
+) -> Result<(), Refusal<OutsideFault>>
     ensures ok { OnOk result (LeavesText name.now (text_in certificate.now) (K.held store.old)
         (K.held store.new)) }
     ensures part { LeavesTextPartly name.now (text_in certificate.now) (K.held store.old)
@@ -50,7 +50,7 @@ pub(crate) fn publish<R: Sink, K: Store>(
     decision: &Decision,
     out: &mut R,
     store: &mut K,
-) -> Result<(), OutsideFault>
+) -> Result<(), Refusal<OutsideFault>>
     ensures { Publishes name.now (decision_of decision.now)
         (outputs_of (sink_state (R.held out.old) (R.begun out.old) (R.faults out.old))
         (sink_state (K.held store.old) (K.begun store.old) (K.faults store.old)))

@@ -1,6 +1,6 @@
 ghost use Rattle.std.specs.Prelude.{◌≡◌, ℕ, List, IfOk, OnErr, IsErrOf, map};
 ghost use Rattle.std.specs.Prelude.{option_map, string_bytes};
-ghost use Rattle.tv_base.specs.declared.faults.OutsideFault.TheVariants.{NoMemory};
+ghost use Rattle.attempt.specs.declared.refusal.Refusal.TheVariants.{NoMemory};
 ghost use Rattle.tv_words.specs.Jobs.{job_of};
 ghost use Rattle.report_text_spec.specs.Verdict.{status_of};
 ghost use Rattle.tv_core.specs.Decisions.{decision_of, trails_of};
@@ -12,23 +12,24 @@ ghost use Rattle.tv_core.specs.Files.{KeepsDesk, ReadsAsked};
 use crate::decision::{Decision, plain};
 use crate::files::judge_files;
 use crate::publish::publish;
+use attempt::Refusal;
 use prove_run::Trails;
 use report_text::{Verdict, status};
 use std::alloc::Global;
 use tv_base::{Desk, Notes, OutsideFault, Sink, Store};
 use tv_core_spec::{one_verdict, proved_is_checked, unproved_is_missing};
-use tv_words::{Job, WordsError, command};
+use tv_words::{Job, WordsFault, command};
 
 /// What the words ask for, or `None` where they are no command.
-fn asked(alloc: Global, words: &[String]) -> Result<Option<Job<'_>>, OutsideFault>
+fn asked(alloc: Global, words: &[String]) -> Result<Option<Job<'_>>, Refusal<OutsideFault>>
     ensures exact { IfOk result (λ job. AskFor (map string_bytes words.now)
         (option_map job_of job)) }
     ensures memory { OnErr result (IsErrOf result NoMemory) }
 {
     match command(alloc, words) {
         Ok(job) => Ok(Some(job)),
-        Err(WordsError::Words) => Ok(None),
-        Err(WordsError::NoMemory) => Err(OutsideFault::NoMemory),
+        Err(Refusal::Fault(WordsFault::Words)) => Ok(None),
+        Err(Refusal::NoMemory) => Err(Refusal::NoMemory),
     }
 }
 
@@ -38,7 +39,7 @@ fn outcome<D: Desk, N: Notes>(
     job: &Option<Job<'_>>,
     desk: &mut D,
     notes: &mut N,
-) -> Result<Decision, OutsideFault>
+) -> Result<Decision, Refusal<OutsideFault>>
     ensures exact { IfOk result (λ decision. (words : List (List ℕ))
         → AskFor words (option_map job_of job.now)
         → IsOutcome words (D.bytes desk.old) (certificate_name (option_map job_of job.now))
@@ -80,7 +81,7 @@ fn give<R: Sink, K: Store>(
     report: &mut R,
     certificate: &mut K,
     trails: &mut Trails,
-) -> Result<u8, OutsideFault>
+) -> Result<u8, Refusal<OutsideFault>>
     ensures published { Publishes name.now (decision_of decision)
         (outputs_of (sink_state (R.held report.old) (R.begun report.old) (R.faults report.old))
         (sink_state (K.held certificate.old) (K.begun certificate.old) (K.faults certificate.old)))
@@ -110,7 +111,7 @@ fn run_job<D: Desk, R: Sink, K: Store, N: Notes>(
     certificate: &mut K,
     trails: &mut Trails,
     notes: &mut N,
-) -> Result<u8, OutsideFault>
+) -> Result<u8, Refusal<OutsideFault>>
     ensures { (words : List (List ℕ)) → AskFor words (option_map job_of job.now)
         → RunsTo words
         (state_of (desk_state (D.bytes desk.old) (D.left desk.old) (D.opened desk.old)
@@ -138,7 +139,7 @@ fn try_run<D: Desk, R: Sink, K: Store, N: Notes>(
     certificate: &mut K,
     trails: &mut Trails,
     notes: &mut N,
-) -> Result<u8, OutsideFault>
+) -> Result<u8, Refusal<OutsideFault>>
     ensures { RunsTo (map string_bytes words.now)
         (state_of (desk_state (D.bytes desk.old) (D.left desk.old) (D.opened desk.old)
         (D.faults desk.old))
@@ -163,8 +164,8 @@ fn try_run<D: Desk, R: Sink, K: Store, N: Notes>(
 /// function (`show`). The last two write no certificate. At status 0 and 1 `trails` has the
 /// unproved functions in the order of the list, each with why no proof of it was found; where the
 /// certificate is longer than its maximum (status 7) it has that certificate; at every other end it
-/// is empty. While it works `notes` is told which function is in work and what was tried; a note has
-/// no answer, so that its faults change nothing. The answer is the exit status:
+/// is empty. While it works `notes` is told which function is in work and what was tried; a note
+/// has no answer, so that its faults change nothing. The answer is the exit status:
 ///
 /// | Status | Meaning |
 /// |---|---|
@@ -212,7 +213,7 @@ pub fn run<D: Desk, R: Sink, K: Store, N: Notes>(
     *trails = Trails::new(alloc);
     match try_run(alloc, words, desk, report, certificate, trails, notes) {
         Ok(code) => code,
-        Err(OutsideFault::Failed) => 4,
-        Err(OutsideFault::NoMemory) => 5,
+        Err(Refusal::Fault(OutsideFault::Failed)) => 4,
+        Err(Refusal::NoMemory) => 5,
     }
 }

@@ -13,7 +13,7 @@ use Rattle.pair_setup_spec.specs.Outcome as outcome
 use Rattle.pair_setup_spec.specs.Outcome.{IsPairFault, IsCodeFault, IsTooLarge, IsPaired}
 use Rattle.pair_setup_spec.specs.Nodes.{HasLargeGraph}
 use Rattle.report_text_spec.specs.declared.SourceKind.{SourceKind}
-use Rattle.report_text_spec.specs.declared.Quantity.TheVariants.{Functions, Nodes, Certificate}
+use Rattle.tv_limits.specs.declared.Quantity.TheVariants.{Functions, Nodes, Certificate}
 use Rattle.report_text_spec.specs.Verdict.{Verdict, TooLarge, RefusedElf, RefusedC, RefusedPair, RefusedCode, Judged, Showed, Shown, maximum_of}
 use Rattle.tv_core_spec.specs.Source.{Source, Accepted, Refused, CVerdict, accepted as c_accepted}
 use Rattle.tv_core_spec.specs.Decisions.{Decision}

@@ -17,14 +17,14 @@ use Rattle.clause_check_spec.specs.Log.{Step}
 use Rattle.cert_text_spec.specs.Lines.{Line, Header, Function, Leaf, End, IsStep, is_name, line_text}
 use Rattle.agreement_laws.specs.EntryFrame.{Pair}
 use Rattle.validity_laws.specs.Derivation as proofs
-use Rattle.cert_check_spec.specs.declared.RuleFault.TheVariants.{Missing}
+use Rattle.cert_check_spec.specs.declared.RuleWord.TheVariants.{Missing}
 use Rattle.cert_check_spec.specs.Verdict.{Listed, IsMissing}
 use Rattle.validity_laws.specs.CheckStatements.{listed_of}
 use Rattle.prove_run_spec.specs.Proofs.{HasLeanProof, AreClosedBy, AreLean}
 use Rattle.prove_run_spec.specs.Trails.{Found, Proved, Unproved, AreFound}
 use Rattle.prove_run_spec.specs.Written as trail
 use Rattle.prove_run_spec.specs.Written.{logs_lines, parts_lines}
-use Rattle.report_text_spec.specs.declared.Quantity.TheVariants.{Elf, C, Certificate}
+use Rattle.tv_limits.specs.declared.Quantity.TheVariants.{Elf, C, Certificate}
 use Rattle.report_text_spec.specs.Verdict.{Verdict, Judgement, NotProof, Checked, Judged, all_valid, maximum_of}
 use Rattle.cert_run_spec.specs.Files.{AreListed, AreFunctionsOf, sides_of}
 use Rattle.cert_run_spec.specs.Verdict.{Outcome, IsOutcome, Unread, Broken, Above, Proof, Part, valid_judgement, log_lines, proof_lines, proofs_lines, written_lines, end_offset}

@@ -1,7 +1,7 @@
 -- What is decided of two files: the verdict, and what is written and handed out beside its report.
 use Rattle.std.specs.Prelude.{ℕ, true, false, if◌then◌else◌, List, [], ◌∷◌, Option, Some, None}
 use Rattle.cert_text_spec.specs.Lines.{Line}
-use Rattle.report_text_spec.specs.declared.Quantity.TheVariants.{Certificate}
+use Rattle.tv_limits.specs.declared.Quantity.TheVariants.{Certificate}
 use Rattle.report_text_spec.specs.Verdict.{Verdict, TooLarge, Judged, Judgement}
 use Rattle.cert_check_spec.specs.Verdict.{Listed}
 use Rattle.prove_run_spec.specs.Trails.{Found, Proved, Unproved}

@@ -2,7 +2,7 @@
 use Rattle.std.specs.Prelude.{◌≡◌, ◌-◌, ℕ, List, length, IsTrue, Option, Some, None, bytes_eq, ⊤}
 use Rattle.std.specs.List.{IsDistinct}
 use Rattle.cert_text_spec.specs.Lines.{End, line_text}
-use Rattle.cert_check_spec.specs.declared.RuleFault.TheVariants.{Missing}
+use Rattle.cert_check_spec.specs.declared.RuleWord.TheVariants.{Missing}
 use Rattle.report_text_spec.specs.Verdict.{NotProof, Checked, Judged, Judgement, all_valid}
 use Rattle.tv_core_spec.specs.Source.{Source, CVerdict}
 use Rattle.tv_core_spec.specs.Decisions.{Decision, plain, first_unproved}

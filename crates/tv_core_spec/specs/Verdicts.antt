@@ -14,8 +14,8 @@ use Rattle.pair_setup_spec.specs.Outcome as outcome
 use Rattle.pair_setup_spec.specs.Outcome.{IsPairFault, IsCodeFault, IsTooLarge, IsPaired}
 use Rattle.validity_spec.specs.Source.{IsC}
 use Rattle.validity_spec.specs.Claim.{IsValid}
-use Rattle.report_text_spec.specs.declared.Quantity.{Quantity}
-use Rattle.report_text_spec.specs.declared.Quantity.TheVariants.{Elf, C, Functions, Nodes, Certificate, Visits, Terms, Variables}
+use Rattle.tv_limits.specs.declared.Quantity.{Quantity}
+use Rattle.tv_limits.specs.declared.Quantity.TheVariants.{Elf, C, Functions, Nodes, Certificate, Visits, Terms, Variables, Call, Steps, Known}
 use Rattle.report_text_spec.specs.declared.SourceKind.{SourceKind}
 use Rattle.report_text_spec.specs.Verdict.{Verdict, TooLarge, RefusedElf, RefusedC, RefusedPair, RefusedCode, RefusedCertificate, NotProof, Checked, Judged, Showed, Judgement, Shown, maximum_of}
 use Rattle.prove_run_spec.specs.Trails.{Found, Proved, Unproved, AreFound}
@@ -23,8 +23,6 @@ use Rattle.validity_laws.specs.Laws.{is_spent}
 use Rattle.tv_core_spec.specs.Source.{CVerdict, Refused}
 use Rattle.tv_core_spec.specs.Decisions.{Decision, plain, judged_by, over_by}
 use Rattle.tv_core_spec.specs.Listing.{Task, Judge, Verify, Display, names_of}
-use Rattle.cert_check_spec.specs.declared.Quantity.{Quantity as CheckQuantity}
-use Rattle.cert_check_spec.specs.declared.Quantity.TheVariants as check
 use Rattle.cert_check_spec.specs.Verdict.{Listed}
 use Rattle.cert_run_spec.specs.Files.{AreListed}
 use Rattle.cert_run_spec.specs.Verdict.{Outcome, Unread, Broken, Above, Proof, IsOutcome, valid_judgement}
@@ -70,16 +68,11 @@ pub record Framed (elf c : List ℕ) (task : Task) (image : Image) (unit : Typed
 
 -- ---- a certificate
 
-abbrev pub quantity_of : CheckQuantity → Quantity
-quantity_of check.Visits = Visits
-quantity_of check.Terms = Terms
-quantity_of check.Variables = Variables
-
 -- the verdict of an outcome of a certificate
 abbrev pub verdict_of_outcome : List Listed → Outcome → Verdict
 verdict_of_outcome listed (Unread offset) = RefusedCertificate offset
 verdict_of_outcome listed (Broken name offset rule) = NotProof name offset rule
-verdict_of_outcome listed (Above quantity) = TooLarge (quantity_of quantity)
+verdict_of_outcome listed (Above quantity) = TooLarge quantity
 verdict_of_outcome listed Proof = Checked (map valid_judgement listed)
 
 -- ---- all files

@@ -8,6 +8,10 @@ pub const MAX_ELF_BYTES: usize = 16_777_216;
 pub const MAX_C_BYTES: usize = 4_194_304;
 /// Bytes of a certificate, read or to be written.
 pub const MAX_CERTIFICATE_BYTES: usize = 67_108_864;
+/// Bytes of the text of a call.
+pub const MAX_CALL_BYTES: usize = 1_048_576;
+/// Steps of the machine.
+pub const MAX_STEPS: usize = 4_294_967_295;
 /// Functions in the list of a command.
 pub const MAX_FUNCTIONS: usize = 4096;
 /// Nodes of one graph, before a call is inlined and after each.
@@ -28,3 +32,30 @@ pub const SEARCH_LIMIT: usize = 65_536;
 pub const NESTING_LIMIT: usize = 128;
 /// Operators in one whole expression of C.
 pub const OPERATOR_LIMIT: usize = 128;
+
+/// A quantity that is bounded.
+#[derive(Clone, Copy, Debug, PartialEq, Eq)]
+pub enum Quantity {
+    /// Bytes of the executable.
+    Elf,
+    /// Bytes of the C source.
+    C,
+    /// Functions of the list.
+    Functions,
+    /// Nodes of a graph.
+    Nodes,
+    /// Bytes of the certificate.
+    Certificate,
+    /// Visits of one side.
+    Visits,
+    /// Distinct subterms of an obligation.
+    Terms,
+    /// Variables of the clauses of an obligation.
+    Variables,
+    /// Bytes of the call that is replayed.
+    Call,
+    /// Steps of the machine.
+    Steps,
+    /// Bytes of a certificate of what is known.
+    Known,
+}

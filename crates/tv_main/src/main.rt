@@ -2,9 +2,9 @@
 //!
 //! It makes the objects of the outside, calls [`tv_core::run`] with the words that it was started
 //! with, and exits with its answer. All that is claimed of a run is a clause of that call. A word
-//! `--why` before all others is none of the run's: with it, what [`tv_core::run`] hands out and tells
-//! of each function that it calls unproved is printed after the report. Where standard error is a
-//! terminal, it says how many functions are done and which is in work.
+//! `--why` before all others is none of the run's: with it, what [`tv_core::run`] hands out and
+//! tells of each function that it calls unproved is printed after the report. Where standard error
+//! is a terminal, it says how many functions are done and which is in work.
 #![tactic(auto)]
 
 mod notes;

@@ -99,8 +99,8 @@ fn put_vacuous(told: &[Told], out: &mut Out) {
     }
 }
 
-/// A line for each trail of each unproved function, and one for its longest search; and one for each
-/// function of which nothing is asked.
+/// A line for each trail of each unproved function, and one for its longest search; and one for
+/// each function of which nothing is asked.
 pub(crate) fn put_reasons(alloc: Global, trails: &Trails, told: &[Told], out: &mut Out) {
     for index in 0..trails.len() {
         let function = trails.get(index);

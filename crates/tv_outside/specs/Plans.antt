@@ -1,7 +1,9 @@
 -- Which calls of an object in memory fail, and how much a call takes.
 use Rattle.std.specs.Prelude.{◌≡◌, ◌+◌, ◌-◌, ◌^◌, ◌<◌, ◌⊎◌, ℕ, List, min, Contains, Result, Ok, Err}
+use Rattle.attempt.specs.declared.refusal.Refusal.{Refusal}
+use Rattle.attempt.specs.declared.refusal.Refusal.TheVariants.{Fault, NoMemory}
 use Rattle.tv_base.specs.declared.faults.OutsideFault.{OutsideFault}
-use Rattle.tv_base.specs.declared.faults.OutsideFault.TheVariants.{Failed, NoMemory}
+use Rattle.tv_base.specs.declared.faults.OutsideFault.TheVariants.{Failed}
 use Rattle.tv_outside.specs.declared.mishaps.Mishaps.{Mishaps}
 use Rattle.tv_outside.specs.declared.desks.MemDesk.{MemDesk}
 use Rattle.tv_outside.specs.declared.sinks.MemSink.{MemSink}
@@ -42,13 +44,13 @@ abbrev pub FailsNext : Plan → Type 0
 FailsNext plan = Contains plan.failing (next_call plan)
 
 -- a call fails where the plan has it fail, or for this other cause, and nowhere else
-abbrev pub GoesAs : {T : Type 0} → Plan → (cause : Type 0) → Result T OutsideFault → Type 0
+abbrev pub GoesAs : {T : Type 0} → Plan → (cause : Type 0) → Result T (Refusal OutsideFault) → Type 0
 GoesAs plan cause (Ok value) = FailsNext plan → ⊥
-GoesAs plan cause (Err Failed) = FailsNext plan ⊎ cause
+GoesAs plan cause (Err (Fault Failed)) = FailsNext plan ⊎ cause
 GoesAs plan cause (Err NoMemory) = FailsNext plan → ⊥
 
 -- so many of `size` bytes are taken as the plan lets through; a call that would take none of some fails
-abbrev pub TakesAs : Plan → (size : ℕ) → Result ℕ OutsideFault → Type 0
+abbrev pub TakesAs : Plan → (size : ℕ) → Result ℕ (Refusal OutsideFault) → Type 0
 TakesAs plan size (Ok count) = (FailsNext plan → ⊥) × (count ≡ min size plan.most)
-TakesAs plan size (Err Failed) = FailsNext plan ⊎ ((0 < size) × (plan.most ≡ 0))
+TakesAs plan size (Err (Fault Failed)) = FailsNext plan ⊎ ((0 < size) × (plan.most ≡ 0))
 TakesAs plan size (Err NoMemory) = FailsNext plan → ⊥

@@ -1,6 +1,6 @@
 ghost use Rattle.std.specs.Prelude.{◌≡◌, ◌<◌, ◌≤◌, [], length, map, min, string_bytes, Some, None};
 ghost use Rattle.std.specs.Prelude.{IfSome, IsOk, IfOk, OnOk, OnErr, IsErrOf};
-ghost use Rattle.tv_base.specs.declared.faults.OutsideFault.TheVariants.{NoMemory};
+ghost use Rattle.attempt.specs.declared.refusal.Refusal.TheVariants.{NoMemory};
 ghost use Rattle.tv_base.specs.Faults.{HasCause};
 ghost use Rattle.tv_base.specs.Reading.{HandsOverFirst, ZeroAtEnd, with_name};
 ghost use Rattle.tv_outside.specs.Contents.{desk_bytes, desk_left, desk_opened, desk_faults};
@@ -11,7 +11,7 @@ ghost use Rattle.tv_outside.specs.Plans.{desk_plan, fresh, called, GoesAs, Takes
 
 use crate::given::{GivenFile, copy_front, find};
 use crate::mishaps::Mishaps;
-use attempt::attempt;
+use attempt::{Refusal, attempt};
 use std::alloc::{AllocError, Global};
 use tv_base::{Desk, OutsideFault};
 
@@ -72,7 +72,7 @@ impl<'a> Desk for MemDesk<'a> {
 
     ghost faults = { desk_faults };
 
-    fn begin(&mut self, name: &str) -> Result<(), OutsideFault>
+    fn begin(&mut self, name: &str) -> Result<(), Refusal<OutsideFault>>
         ensures planned { GoesAs (desk_plan self.old) (desk_bytes self.old name.now ≡ None) result }
         ensures counted { desk_plan self.new ≡ called (desk_plan self.old) }
         ensures begins { OnOk result (desk_left self.new ≡ desk_bytes self.old name.now) }
@@ -96,7 +96,7 @@ impl<'a> Desk for MemDesk<'a> {
         }
     }
 
-    fn read(&mut self, buf: &mut [u8]) -> Result<usize, OutsideFault>
+    fn read(&mut self, buf: &mut [u8]) -> Result<usize, Refusal<OutsideFault>>
         requires { 0 < length buf.old }
         ensures planned { IfSome (desk_left self.old) (λ left. TakesAs (desk_plan self.old)
             (min (length left) (length buf.old)) result) }
@@ -149,7 +149,7 @@ impl<'a> Desk for SteadyDesk<'a> {
 
     ghost faults = { steady_faults };
 
-    fn begin(&mut self, name: &str) -> Result<(), OutsideFault>
+    fn begin(&mut self, name: &str) -> Result<(), Refusal<OutsideFault>>
         ensures ok { IsOk result }
         ensures begins { OnOk result (steady_left self.new ≡ steady_bytes self.old name.now) }
         ensures opens { OnOk result (steady_opened self.new ≡ with_name
@@ -166,7 +166,7 @@ impl<'a> Desk for SteadyDesk<'a> {
         Ok(())
     }
 
-    fn read(&mut self, buf: &mut [u8]) -> Result<usize, OutsideFault>
+    fn read(&mut self, buf: &mut [u8]) -> Result<usize, Refusal<OutsideFault>>
         requires { 0 < length buf.old }
         ensures ok { IsOk result }
         ensures bound { IfOk result (λ count. count ≤ length buf.old) }

@@ -1,9 +1,10 @@
 ghost use Rattle.std.specs.Prelude.{◌≡◌, ◌+◌, ◌-◌, ◌^◌, ◌≤◌, min, ◌<◌, IsErrOf, IfOk, OnOk, OnErr};
+ghost use Rattle.attempt.specs.declared.refusal.Refusal.TheVariants.{Fault};
 ghost use Rattle.tv_base.specs.declared.faults.OutsideFault.TheVariants.{Failed};
 ghost use Rattle.tv_base.specs.Faults.{HasCause};
 ghost use Rattle.tv_outside.specs.Plans.{plan_of, fresh, called, GoesAs, TakesAs};
 
-use attempt::attempt;
+use attempt::{Refusal, attempt};
 use tv_base::OutsideFault;
 
 /// Which calls of an object in memory fail, and how much a call takes.
@@ -33,20 +34,20 @@ impl<'a> Mishaps<'a> {
     }
 
     /// Raises the count, and answers the refusal.
-    pub(crate) fn fail<T>(&mut self) -> Result<T, OutsideFault>
-        ensures refusal { IsErrOf result Failed }
+    pub(crate) fn fail<T>(&mut self) -> Result<T, Refusal<OutsideFault>>
+        ensures refusal { IsErrOf result (Fault Failed) }
         ensures count { self.new.faults ≡ min (self.old.faults + 1) (2 ^ 64 - 1) }
         ensures plan { plan_of self.new ≡ plan_of self.old }
         ensures cause { HasCause self.old.faults self.new.faults result }
     {
         self.faults = self.faults.saturating_add(1);
-        Err(OutsideFault::Failed)
+        Err(Refusal::Fault(OutsideFault::Failed))
     }
 
     /// Counts a call, and refuses it where its number is among those that fail.
-    pub(crate) fn count_call(&mut self) -> Result<(), OutsideFault>
+    pub(crate) fn count_call(&mut self) -> Result<(), Refusal<OutsideFault>>
         ensures cause { HasCause self.old.faults self.new.faults result }
-        ensures fault { OnErr result (IsErrOf result Failed) }
+        ensures fault { OnErr result (IsErrOf result (Fault Failed)) }
         ensures well { OnOk result (self.new.faults ≡ self.old.faults) }
         ensures planned { GoesAs (plan_of self.old) ⊥ result }
         ensures counted { plan_of self.new ≡ called (plan_of self.old) }
@@ -60,11 +61,11 @@ impl<'a> Mishaps<'a> {
 
     /// Counts a call that is to write `size` bytes, and answers how many of them it takes. Where it
     /// would take none of some, it fails.
-    pub(crate) fn count_put(&mut self, size: usize) -> Result<usize, OutsideFault>
+    pub(crate) fn count_put(&mut self, size: usize) -> Result<usize, Refusal<OutsideFault>>
         ensures bound { IfOk result (λ count. count ≤ size) }
         ensures progress { IfOk result (λ count. 0 < size → 0 < count) }
         ensures cause { HasCause self.old.faults self.new.faults result }
-        ensures fault { OnErr result (IsErrOf result Failed) }
+        ensures fault { OnErr result (IsErrOf result (Fault Failed)) }
         ensures well { OnOk result (self.new.faults ≡ self.old.faults) }
         ensures planned { TakesAs (plan_of self.old) size result }
         ensures counted { plan_of self.new ≡ called (plan_of self.old) }

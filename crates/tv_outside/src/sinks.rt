@@ -1,5 +1,5 @@
 ghost use Rattle.std.specs.Prelude.{◌≡◌, ◌<◌, ◌≤◌, [], length, IfOk, OnOk, OnErr, IsErrOf};
-ghost use Rattle.tv_base.specs.declared.faults.OutsideFault.TheVariants.{NoMemory};
+ghost use Rattle.attempt.specs.declared.refusal.Refusal.TheVariants.{NoMemory};
 ghost use Rattle.tv_base.specs.Faults.{HasCause};
 ghost use Rattle.tv_base.specs.Writing.{GrowsByFirst};
 ghost use Rattle.tv_outside.specs.Contents.{sink_held, sink_begun, sink_faults};
@@ -8,7 +8,7 @@ ghost use Rattle.tv_outside.specs.Shelf.{unnamed};
 ghost use Rattle.tv_outside.specs.Plans.{sink_plan, fresh, called, TakesAs};
 
 use crate::mishaps::Mishaps;
-use attempt::attempt;
+use attempt::{Refusal, attempt};
 use std::alloc::Global;
 use tv_base::{OutsideFault, Sink};
 
@@ -56,7 +56,7 @@ impl<'a> Sink for MemSink<'a> {
 
     ghost faults = { sink_faults };
 
-    fn put(&mut self, bytes: &[u8]) -> Result<usize, OutsideFault>
+    fn put(&mut self, bytes: &[u8]) -> Result<usize, Refusal<OutsideFault>>
         ensures planned { TakesAs (sink_plan self.old) (length bytes.now) result }
         ensures counted { sink_plan self.new ≡ called (sink_plan self.old) }
         ensures bound { IfOk result (λ count. count ≤ length bytes.now) }
@@ -107,7 +107,7 @@ impl Sink for SteadySink {
 
     ghost faults = { steady_faults };
 
-    fn put(&mut self, bytes: &[u8]) -> Result<usize, OutsideFault>
+    fn put(&mut self, bytes: &[u8]) -> Result<usize, Refusal<OutsideFault>>
         ensures only_memory { OnErr result (IsErrOf result NoMemory) }
         ensures whole { IfOk result (λ count. count ≡ length bytes.now) }
         ensures bound { IfOk result (λ count. count ≤ length bytes.now) }

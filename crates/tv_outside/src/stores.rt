@@ -1,6 +1,6 @@
 ghost use Rattle.std.specs.Prelude.{◌≡◌, ℕ, ◌<◌, ◌≤◌, List, [], length, Some, IfOk, OnOk, OnErr};
 ghost use Rattle.std.specs.Prelude.{IsErrOf};
-ghost use Rattle.tv_base.specs.declared.faults.OutsideFault.TheVariants.{NoMemory};
+ghost use Rattle.attempt.specs.declared.refusal.Refusal.TheVariants.{NoMemory};
 ghost use Rattle.tv_base.specs.Faults.{HasCause};
 ghost use Rattle.tv_base.specs.Writing.{GrowsByFirst, IsEmptied};
 ghost use Rattle.tv_outside.specs.Contents.{store_held, store_begun, store_faults};
@@ -9,7 +9,7 @@ ghost use Rattle.tv_outside.specs.Plans.{store_plan, fresh, called, GoesAs, Take
 
 use crate::mishaps::Mishaps;
 use crate::shelf::Shelf;
-use attempt::attempt;
+use attempt::{Refusal, attempt};
 use std::alloc::Global;
 use tv_base::{OutsideFault, Sink, Store};
 
@@ -65,7 +65,7 @@ impl<'a> Sink for MemStore<'a> {
 
     ghost faults = { store_faults };
 
-    fn put(&mut self, bytes: &[u8]) -> Result<usize, OutsideFault>
+    fn put(&mut self, bytes: &[u8]) -> Result<usize, Refusal<OutsideFault>>
         ensures planned { TakesAs (store_plan self.old) (length bytes.now) result }
         ensures counted { store_plan self.new ≡ called (store_plan self.old) }
         ensures bound { IfOk result (λ count. count ≤ length bytes.now) }
@@ -86,7 +86,7 @@ impl<'a> Sink for MemStore<'a> {
 }
 
 impl<'a> Store for MemStore<'a> {
-    fn begin(&mut self, name: &str) -> Result<(), OutsideFault>
+    fn begin(&mut self, name: &str) -> Result<(), Refusal<OutsideFault>>
         ensures planned { GoesAs (store_plan self.old) ⊥ result }
         ensures counted { store_plan self.new ≡ called (store_plan self.old) }
         ensures empties { OnOk result (IsEmptied (store_held self.old) name.now
@@ -145,7 +145,7 @@ impl Sink for SteadyStore {
 
     ghost faults = { steady_faults };
 
-    fn put(&mut self, bytes: &[u8]) -> Result<usize, OutsideFault>
+    fn put(&mut self, bytes: &[u8]) -> Result<usize, Refusal<OutsideFault>>
         ensures only_memory { OnErr result (IsErrOf result NoMemory) }
         ensures whole { IfOk result (λ count. count ≡ length bytes.now) }
         ensures bound { IfOk result (λ count. count ≤ length bytes.now) }
@@ -165,7 +165,7 @@ impl Sink for SteadyStore {
 }
 
 impl Store for SteadyStore {
-    fn begin(&mut self, name: &str) -> Result<(), OutsideFault>
+    fn begin(&mut self, name: &str) -> Result<(), Refusal<OutsideFault>>
         ensures only_memory { OnErr result (IsErrOf result NoMemory) }
         ensures empties { OnOk result (IsEmptied (steady_store_held self.old) name.now
             (steady_store_held self.new)) }

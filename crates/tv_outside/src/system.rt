@@ -1,24 +1,25 @@
 ghost use Rattle.std.specs.Prelude.{◌≡◌, ◌<◌, ◌≤◌, [], Option, None, string_bytes, IsErr, IsErrOf};
 ghost use Rattle.std.specs.Prelude.{IfOk, OnOk};
-ghost use Rattle.tv_base.specs.declared.faults.OutsideFault.TheVariants.{NoMemory};
+ghost use Rattle.attempt.specs.declared.refusal.Refusal.TheVariants.{NoMemory};
 ghost use Rattle.tv_base.specs.Faults.{HasCause};
 
+use attempt::Refusal;
 use std::io::{self, ErrorKind, Print, Read, Write};
 use std::rt::Files;
 use tv_base::{Desk, OutsideFault, Sink, Store};
 
 /// The refusal for an error of the operating system: out of memory, or a failure, at which the
 /// count rises.
-fn refused<T>(faults: &mut u64, error: &io::Error) -> Result<T, OutsideFault>
+fn refused<T>(faults: &mut u64, error: &io::Error) -> Result<T, Refusal<OutsideFault>>
     ensures refusal { IsErr result }
     ensures cause { HasCause faults.old faults.new result }
     ensures no_memory { IsErrOf result NoMemory → faults.new ≡ faults.old }
 {
     if error.kind() == ErrorKind::OutOfMemory {
-        return Err(OutsideFault::NoMemory);
+        return Err(Refusal::NoMemory);
     }
     *faults = faults.saturating_add(1);
-    Err(OutsideFault::Failed)
+    Err(Refusal::Fault(OutsideFault::Failed))
 }
 
 /// The file that takes a standard descriptor. Opened for reading, it takes no byte of a report.
@@ -75,7 +76,7 @@ impl<R: Files + Drop> Desk for FileDesk<R> {
 
     ghost faults = { λ desk. desk.faults };
 
-    fn begin(&mut self, name: &str) -> Result<(), OutsideFault> {
+    fn begin(&mut self, name: &str) -> Result<(), Refusal<OutsideFault>> {
         match std::fs::open(&self.rt, name) {
             Ok(file) => {
                 self.file = Some(file);
@@ -85,7 +86,7 @@ impl<R: Files + Drop> Desk for FileDesk<R> {
         }
     }
 
-    fn read(&mut self, buf: &mut [u8]) -> Result<usize, OutsideFault> {
+    fn read(&mut self, buf: &mut [u8]) -> Result<usize, Refusal<OutsideFault>> {
         let Some(file) = &mut self.file else {
             return Ok(0);
         };
@@ -97,7 +98,11 @@ impl<R: Files + Drop> Desk for FileDesk<R> {
 }
 
 /// The outcome of a write of `size` bytes. A write of some bytes that took none is a failure.
-fn taken(faults: &mut u64, size: usize, outcome: io::Result<usize>) -> Result<usize, OutsideFault>
+fn taken(
+    faults: &mut u64,
+    size: usize,
+    outcome: io::Result<usize>,
+) -> Result<usize, Refusal<OutsideFault>>
     requires { IfOk outcome (λ count. count ≤ size) }
     ensures bound { IfOk result (λ count. count ≤ size) }
     ensures progress { IfOk result (λ count. 0 < size → 0 < count) }
@@ -108,7 +113,7 @@ fn taken(faults: &mut u64, size: usize, outcome: io::Result<usize>) -> Result<us
     match outcome {
         Ok(0) if size > 0 => {
             *faults = faults.saturating_add(1);
-            Err(OutsideFault::Failed)
+            Err(Refusal::Fault(OutsideFault::Failed))
         }
         Ok(count) => Ok(count),
         Err(error) => refused(faults, &error),
@@ -138,7 +143,7 @@ impl<R: Print + Drop> Sink for OutSink<R> {
 
     ghost faults = { λ sink. sink.faults };
 
-    fn put(&mut self, bytes: &[u8]) -> Result<usize, OutsideFault> {
+    fn put(&mut self, bytes: &[u8]) -> Result<usize, Refusal<OutsideFault>> {
         let outcome = self.rt.write_some(bytes);
         taken(&mut self.faults, bytes.len(), outcome)
     }
@@ -176,10 +181,10 @@ impl<R: Files + AllocGlobal + Drop> Sink for FileStore<R> {
 
     ghost faults = { λ store. store.faults };
 
-    fn put(&mut self, bytes: &[u8]) -> Result<usize, OutsideFault> {
+    fn put(&mut self, bytes: &[u8]) -> Result<usize, Refusal<OutsideFault>> {
         let Some(file) = &mut self.file else {
             self.faults = self.faults.saturating_add(1);
-            return Err(OutsideFault::Failed);
+            return Err(Refusal::Fault(OutsideFault::Failed));
         };
         let outcome = file.write(bytes);
         taken(&mut self.faults, bytes.len(), outcome)
@@ -187,7 +192,7 @@ impl<R: Files + AllocGlobal + Drop> Sink for FileStore<R> {
 }
 
 impl<R: Files + AllocGlobal + Drop> Store for FileStore<R> {
-    fn begin(&mut self, name: &str) -> Result<(), OutsideFault> {
+    fn begin(&mut self, name: &str) -> Result<(), Refusal<OutsideFault>> {
         let begun = String::from_str(self.rt.alloc(), name)?;
         match std::fs::create(&self.rt, name) {
             Ok(file) => {

@@ -3,9 +3,10 @@
 ghost use Rattle.c_types_spec.specs.HasType.{IsTypedUnit};
 ghost use Rattle.c_types.specs.Typed.{typed_of};
 
+use attempt::Refusal;
 use c_types::typed::Typed;
-use elf_read::{ElfError, Image, read};
-use pair_setup::{Function, Named, PairError, Pairs, pair};
+use elf_read::{Image, read};
+use pair_setup::{Function, Named, PairFault, Pairs, pair};
 use pair_setup_calls::name_at;
 use pair_setup_spec::PairKind;
 use row_io::Out;
@@ -62,15 +63,15 @@ fn word(kind: PairKind) -> &'static str {
 }
 
 /// A refusal.
-fn put_error(unit: &Typed<'_>, list: &[&[u8]], error: PairError, out: &mut Out) {
+fn put_error(unit: &Typed<'_>, list: &[&[u8]], error: Refusal<PairFault>, out: &mut Out) {
     match error {
-        PairError::Refused(kind, named) => {
+        Refusal::Fault(PairFault::Refused(kind, named)) => {
             out.put("pair ");
             out.put(word(kind));
             out.put(" ");
             put_name(unit, list, named, out);
         }
-        PairError::Code(fault, index) => {
+        Refusal::Fault(PairFault::Code(fault, index)) => {
             out.put("code ");
             out.show(&fault.kind);
             out.put(" ");
@@ -78,8 +79,8 @@ fn put_error(unit: &Typed<'_>, list: &[&[u8]], error: PairError, out: &mut Out) 
             out.put(" at ");
             out.hexadecimal(u64::from(fault.address));
         }
-        PairError::Nodes => out.put("limit nodes"),
-        PairError::NoMemory => out.fail(),
+        Refusal::Fault(PairFault::Nodes) => out.put("limit nodes"),
+        Refusal::NoMemory => out.fail(),
     }
 }
 
@@ -142,8 +143,8 @@ pub(crate) fn put_pairs(
     let names = names_in(alloc, list)?;
     match read(alloc, elf) {
         Ok(image) => put_image(alloc, &image, names.as_slice(), text, out),
-        Err(ElfError::NoMemory) => out.fail(),
-        Err(ElfError::Fault(_)) => out.put("no executable"),
+        Err(Refusal::NoMemory) => out.fail(),
+        Err(Refusal::Fault(_)) => out.put("no executable"),
     }
     Ok(())
 }

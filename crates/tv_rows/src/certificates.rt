@@ -12,10 +12,11 @@ ghost use Rattle.validity_laws.specs.CheckStatements.{AreLines};
 
 use crate::obligations::put_obligations;
 use crate::outcomes::put_cert;
+use attempt::Refusal;
 use c_types::typed::Typed;
 use cert_check_frames::Listed;
 use cert_run::Sides;
-use cert_text::{Cert, ReadError, read};
+use cert_text::{Cert, ReadFault, read};
 use elf_read::Image;
 use pair_setup::{Pairs, pair};
 use row_io::{Out, split};
@@ -115,11 +116,11 @@ fn put_certificate(
 {
     match read(alloc, text) {
         Ok(cert) => put_listed(alloc, image, unit, list, Some(&cert), out),
-        Err(ReadError::Refused(offset)) => {
+        Err(Refusal::Fault(ReadFault::Refused(offset))) => {
             out.put("refused at ");
             out.show(&offset);
         }
-        Err(ReadError::NoMemory) => out.fail(),
+        Err(Refusal::NoMemory) => out.fail(),
     }
 }
 

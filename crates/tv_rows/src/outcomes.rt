@@ -3,44 +3,63 @@
 ghost use Rattle.cert_text.specs.Certificates.{certificate_of};
 ghost use Rattle.validity_laws.specs.CheckStatements.{AreLines};
 
+use attempt::Refusal;
 use cert_check::{CheckFault, Listed, check, name};
-use cert_check_spec::{Quantity, RuleFault};
+use cert_check_spec::RuleWord;
 use cert_text::Cert;
 use row_io::Out;
 use std::alloc::Global;
+use tv_limits::Quantity;
 
 /// The word of a rule.
-fn word(rule: RuleFault) -> &'static str {
+fn word(rule: RuleWord) -> &'static str {
     match rule {
-        RuleFault::Later => "Later",
-        RuleFault::Stranger => "Stranger",
-        RuleFault::Stack => "Stack",
-        RuleFault::Sort => "Sort",
-        RuleFault::Cyclic => "Cyclic",
-        RuleFault::Logs => "Logs",
-        RuleFault::Step => "Step",
-        RuleFault::Unclosed => "Unclosed",
-        RuleFault::Missing => "Missing",
+        RuleWord::Later => "Later",
+        RuleWord::Stranger => "Stranger",
+        RuleWord::Stack => "Stack",
+        RuleWord::Inline => "Inline",
+        RuleWord::Point => "Point",
+        RuleWord::Count => "Count",
+        RuleWord::Callee => "Callee",
+        RuleWord::Sort => "Sort",
+        RuleWord::Cyclic => "Cyclic",
+        RuleWord::Passed => "Passed",
+        RuleWord::Logs => "Logs",
+        RuleWord::Same => "Same",
+        RuleWord::Step => "Step",
+        RuleWord::Word => "Word",
+        RuleWord::Unclosed => "Unclosed",
+        RuleWord::Missing => "Missing",
     }
 }
 
 /// The name of a quantity.
 fn quantity_name(quantity: Quantity) -> &'static str {
     match quantity {
+        Quantity::Elf => "elf",
+        Quantity::C => "c",
+        Quantity::Functions => "functions",
+        Quantity::Nodes => "nodes",
+        Quantity::Certificate => "cert",
         Quantity::Visits => "visits",
         Quantity::Terms => "terms",
         Quantity::Variables => "variables",
+        Quantity::Call => "call",
+        Quantity::Steps => "steps",
+        Quantity::Known => "known",
     }
 }
 
 /// What is wrong with a certificate.
-fn put_fault(listed: &[Listed<'_>], cert: &Cert, fault: CheckFault, out: &mut Out) {
+fn put_fault(listed: &[Listed<'_>], cert: &Cert, fault: Refusal<CheckFault>, out: &mut Out) {
     match fault {
-        CheckFault::NotProof {
-            function,
-            offset,
-            rule,
-        } => {
+        Refusal::Fault(
+            CheckFault::NotProof {
+                function,
+                offset,
+                rule,
+            },
+        ) => {
             out.put("not a proof ");
             out.bytes(name(listed, cert, function).unwrap_or(b"?"));
             out.put(" at ");
@@ -48,11 +67,11 @@ fn put_fault(listed: &[Listed<'_>], cert: &Cert, fault: CheckFault, out: &mut Ou
             out.put(" ");
             out.put(word(rule));
         }
-        CheckFault::Limit { quantity } => {
+        Refusal::Fault(CheckFault::Limit { quantity }) => {
             out.put("limit ");
             out.put(quantity_name(quantity));
         }
-        CheckFault::NoMemory => out.fail(),
+        Refusal::NoMemory => out.fail(),
     }
 }
 

@@ -1,8 +1,9 @@
 //! The words of rows.
 
+use attempt::Refusal;
 use row_io::{Out, decimal};
 use std::alloc::{AllocError, Global};
-use tv_words::{Checking, Job, Proving, Showing, WordsError, command};
+use tv_words::{Checking, Job, Proving, Showing, WordsFault, command};
 
 /// So many names, parted by commas.
 fn put_names(count: u64, names: &mut String) -> Result<(), AllocError> {
@@ -88,8 +89,8 @@ pub(crate) fn put_command(alloc: Global, row: &str, out: &mut Out) -> Result<(),
         Ok(Job::Prove(job)) => put_job(&job, out),
         Ok(Job::Check(job)) => put_checked(&job, out),
         Ok(Job::Show(job)) => put_shown(&job, out),
-        Err(WordsError::Words) => out.put("no command"),
-        Err(WordsError::NoMemory) => out.fail(),
+        Err(Refusal::Fault(WordsFault::Words)) => out.put("no command"),
+        Err(Refusal::NoMemory) => out.fail(),
     }
     Ok(())
 }

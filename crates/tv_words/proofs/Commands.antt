@@ -7,8 +7,10 @@ use Rattle.clap.specs.Kinds.{Kinds, HasKind}
 use Rattle.clap.specs.Values.{kind_of}
 use Rattle.clap.specs.declared.error.Error.{Error}
 use Rattle.clap.specs.declared.error.kind.ErrorKind.TheVariants.{OutOfMemory}
-use Rattle.tv_words.specs.declared.WordsError.{WordsError}
-use Rattle.tv_words.specs.declared.WordsError.TheVariants.{Words, NoMemory}
+use Rattle.attempt.specs.declared.refusal.Refusal.{Refusal}
+use Rattle.attempt.specs.declared.refusal.Refusal.TheVariants.{Fault, NoMemory}
+use Rattle.tv_words.specs.declared.WordsFault.{WordsFault}
+use Rattle.tv_words.specs.declared.WordsFault.TheVariants.{Words}
 use Rattle.tv_words.specs.Commands as spec
 use Rattle.tv_words.specs.Commands.{AreListed, AsksFor, IsCommand, IsProving, IsChecking, IsShowing, program, is_prove, is_check, is_show}
 use Rattle.tv_words.proofs.Lists.{parts_of_list}
@@ -159,7 +161,7 @@ module _ {J E : Type 0} (view : J → spec.Command) (words : List Text) (found :
   refused_alike (Err e) cause only = λ other is. only other (asked_by words found other same is)
 
 -- the error that a refusal becomes: one of memory where the words are taken
-pub refused_by_memory : {T : Type 0} (r : Result T WordsError) (error : Error) (taken : Type 0)
-    → IsErrAnd r (λ e. (kind_of error ≡ OutOfMemory → e ≡ NoMemory) × (kind_of error ≢ OutOfMemory → e ≡ Words)) → (taken → kind_of error ≡ OutOfMemory) → IfErr r (λ e. taken → e ≡ NoMemory)
+pub refused_by_memory : {T : Type 0} (r : Result T (Refusal WordsFault)) (error : Error) (taken : Type 0)
+    → IsErrAnd r (λ e. (kind_of error ≡ OutOfMemory → e ≡ NoMemory) × (kind_of error ≢ OutOfMemory → e ≡ Fault Words)) → (taken → kind_of error ≡ OutOfMemory) → IfErr r (λ e. taken → e ≡ NoMemory)
 refused_by_memory (Ok x) error taken h memory = tt
 refused_by_memory (Err e) error taken h memory = λ is. h.0 (memory is)

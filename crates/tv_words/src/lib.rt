@@ -15,14 +15,15 @@ ghost use Rattle.clap.specs.Values.{kind_of};
 ghost use Rattle.clap.specs.declared.error.kind.ErrorKind.TheVariants.{OutOfMemory};
 ghost use Rattle.tv_words.specs.Commands as spec;
 ghost use Rattle.tv_words.specs.Jobs.{checking_of, job_of, names_of, proving_of, showing_of};
-ghost use Rattle.tv_words.specs.declared.WordsError.TheVariants.{Words, NoMemory};
+ghost use Rattle.attempt.specs.declared.refusal.Refusal.TheVariants.{Fault, NoMemory};
+ghost use Rattle.tv_words.specs.declared.WordsFault.TheVariants.{Words};
 
-use attempt::attempt;
+use attempt::{Refusal, attempt};
 use clap::ArgMatches;
 use clap::error::ErrorKind;
 use list::{is_name, names_in};
 use program::parsed;
-use std::alloc::{AllocError, AllocFailed, Global};
+use std::alloc::Global;
 use thiserror::Error;
 
 /// What the program is to do.
@@ -75,37 +76,25 @@ pub struct Showing<'a> {
 
 /// Why there is no job.
 #[derive(Clone, Copy, Debug, PartialEq, Eq, Error)]
-pub enum WordsError {
+pub enum WordsFault {
     /// Usage error: the words are no command. A call for help is none either.
     #[error("the words are no command")]
     Words,
-    /// Out of memory.
-    #[error("no memory")]
-    NoMemory,
 }
 
-impl From<AllocError> for WordsError {
-    ghost from_gives = { λ _ error. error ≡ NoMemory };
-
-    fn from(_: AllocError) -> Self {
-        WordsError::NoMemory
-    }
-}
-
-impl From<clap::Error> for WordsError {
-    ghost from_gives = { λ refused error. (kind_of refused ≡ OutOfMemory → error ≡ NoMemory)
-        × (kind_of refused ≢ OutOfMemory → error ≡ Words) };
-
-    fn from(refused: clap::Error) -> Self {
-        match refused.kind() {
-            ErrorKind::OutOfMemory => WordsError::NoMemory,
-            _ => WordsError::Words,
-        }
+/// Why there is no job, where `clap` refuses the words.
+pub(crate) fn refusal_of(refused: clap::Error) -> Refusal<WordsFault>
+    ensures { (kind_of refused ≡ OutOfMemory → result ≡ NoMemory)
+        × (kind_of refused ≢ OutOfMemory → result ≡ Fault Words) }
+{
+    match refused.kind() {
+        ErrorKind::OutOfMemory => Refusal::NoMemory,
+        _ => Refusal::Fault(WordsFault::Words),
     }
 }
 
 /// The job that the words ask for. The first word is the program's own name, and is ignored.
-pub fn command(alloc: Global, words: &[String]) -> Result<Job<'_>, WordsError>
+pub fn command(alloc: Global, words: &[String]) -> Result<Job<'_>, Refusal<WordsFault>>
     ensures found { IfOk result (λ job. spec.IsCommand (map string_bytes words.now) (job_of job)) }
     ensures fields { IfOk result (λ job. (other : spec.Command)
         → spec.IsCommand (map string_bytes words.now) other → other ≡ job_of job) }
@@ -117,7 +106,7 @@ pub fn command(alloc: Global, words: &[String]) -> Result<Job<'_>, WordsError>
 }
 
 /// The job of the subcommand that was found.
-fn found_job<'a>(alloc: Global, matches: &ArgMatches<'a>) -> Result<Job<'a>, WordsError>
+fn found_job<'a>(alloc: Global, matches: &ArgMatches<'a>) -> Result<Job<'a>, Refusal<WordsFault>>
     ensures found { IfOk result (λ job. spec.AsksFor (subcommand_rows_of matches.now)
         (job_of job)) }
     ensures only { IfErr result (λ error. (other : spec.Command)
@@ -133,7 +122,7 @@ fn found_job<'a>(alloc: Global, matches: &ArgMatches<'a>) -> Result<Job<'a>, Wor
 }
 
 /// The job of the subcommand that was found, which isn't `prove`.
-fn checked_job<'a>(alloc: Global, matches: &ArgMatches<'a>) -> Result<Job<'a>, WordsError>
+fn checked_job<'a>(alloc: Global, matches: &ArgMatches<'a>) -> Result<Job<'a>, Refusal<WordsFault>>
     requires { (given : List Row) → subcommand_rows_of matches.now ≢ Some (codes "prove", given) }
     ensures found { IfOk result (λ job. spec.AsksFor (subcommand_rows_of matches.now)
         (job_of job)) }
@@ -150,7 +139,7 @@ fn checked_job<'a>(alloc: Global, matches: &ArgMatches<'a>) -> Result<Job<'a>, W
 }
 
 /// The job of the subcommand that was found, which is neither `prove` nor `check`.
-fn shown_job<'a>(matches: &ArgMatches<'a>) -> Result<Job<'a>, WordsError>
+fn shown_job<'a>(matches: &ArgMatches<'a>) -> Result<Job<'a>, Refusal<WordsFault>>
     requires no_prove { (given : List Row)
         → subcommand_rows_of matches.now ≢ Some (codes "prove", given) }
     requires no_check { (given : List Row)
@@ -161,14 +150,14 @@ fn shown_job<'a>(matches: &ArgMatches<'a>) -> Result<Job<'a>, WordsError>
         → spec.AsksFor (subcommand_rows_of matches.now) other → error ≡ NoMemory) }
 {
     let Some(found) = matches.subcommand_matches("show") else {
-        return Err(WordsError::Words);
+        return Err(Refusal::Fault(WordsFault::Words));
     };
     let job = show_job(found)?;
     Ok(Job::Show(job))
 }
 
 /// The job of `show`, from what was found after that word.
-fn show_job<'a>(found: &ArgMatches<'a>) -> Result<Showing<'a>, WordsError>
+fn show_job<'a>(found: &ArgMatches<'a>) -> Result<Showing<'a>, Refusal<WordsFault>>
     ensures found { IfOk result (λ job. spec.IsShowing (rows_of (found_of found.now))
         (showing_of job)) }
     ensures only { IfErr result (λ error. (other : spec.Showing)
@@ -178,7 +167,7 @@ fn show_job<'a>(found: &ArgMatches<'a>) -> Result<Showing<'a>, WordsError>
     let source = needed(found, "source")?;
     let function = needed(found, "function")?;
     if !is_name(function) {
-        return Err(WordsError::Words);
+        return Err(Refusal::Fault(WordsFault::Words));
     }
     Ok(Showing {
         elf,
@@ -188,7 +177,7 @@ fn show_job<'a>(found: &ArgMatches<'a>) -> Result<Showing<'a>, WordsError>
 }
 
 /// The job of `prove`, from what was found after that word.
-fn prove_job<'a>(alloc: Global, found: &ArgMatches<'a>) -> Result<Proving<'a>, WordsError>
+fn prove_job<'a>(alloc: Global, found: &ArgMatches<'a>) -> Result<Proving<'a>, Refusal<WordsFault>>
     ensures found { IfOk result (λ job. spec.IsProving (rows_of (found_of found.now))
         (proving_of job)) }
     ensures only { IfErr result (λ error. (other : spec.Proving)
@@ -207,7 +196,7 @@ fn prove_job<'a>(alloc: Global, found: &ArgMatches<'a>) -> Result<Proving<'a>, W
 }
 
 /// The job of `check`, from what was found after that word.
-fn check_job<'a>(alloc: Global, found: &ArgMatches<'a>) -> Result<Checking<'a>, WordsError>
+fn check_job<'a>(alloc: Global, found: &ArgMatches<'a>) -> Result<Checking<'a>, Refusal<WordsFault>>
     ensures found { IfOk result (λ job. spec.IsChecking (rows_of (found_of found.now))
         (checking_of job)) }
     ensures only { IfErr result (λ error. (other : spec.Checking)
@@ -234,7 +223,7 @@ fn given<'a>(found: &ArgMatches<'a>, id: &str) -> Option<&'a str>
 }
 
 /// The value of an argument that is required, so that it has one.
-fn needed<'a>(found: &ArgMatches<'a>, id: &str) -> Result<&'a str, WordsError>
+fn needed<'a>(found: &ArgMatches<'a>, id: &str) -> Result<&'a str, Refusal<WordsFault>>
     ensures found { IfOk result (λ text. first_of id.now (rows_of (found_of found.now))
         ≡ Some text.now) }
     ensures missing { IfErr result (λ error. first_of id.now (rows_of (found_of found.now))
@@ -242,12 +231,15 @@ fn needed<'a>(found: &ArgMatches<'a>, id: &str) -> Result<&'a str, WordsError>
 {
     match given(found, id) {
         Some(text) => Ok(text),
-        None => Err(WordsError::Words),
+        None => Err(Refusal::Fault(WordsFault::Words)),
     }
 }
 
 /// The names of a list that was given, if one was.
-fn listed<'a>(alloc: Global, text: Option<&'a str>) -> Result<Option<Vec<&'a str>>, WordsError>
+fn listed<'a>(
+    alloc: Global,
+    text: Option<&'a str>,
+) -> Result<Option<Vec<&'a str>>, Refusal<WordsFault>>
     ensures found { IfOk result (λ names. spec.AreListed (option_map (λ text. text.now) text.entry)
         (option_map names_of names)) }
     ensures only { IfErr result (λ error. (names : Option (List (List ℕ)))

@@ -5,15 +5,19 @@ ghost use Rattle.std.specs.Prelude.{bytes_eq};
 ghost use Rattle.std.specs.List.{slice_split, IsDistinct, list_all};
 ghost use Rattle.c_token_spec.specs.Words.{begins_word, is_word_byte};
 ghost use Rattle.tv_words.specs.Names as spec;
-ghost use Rattle.tv_words.specs.declared.WordsError.TheVariants.{NoMemory};
+ghost use Rattle.attempt.specs.declared.refusal.Refusal.TheVariants.{NoMemory};
 
-use crate::WordsError;
+use crate::WordsFault;
+use attempt::Refusal;
 use indexmap::IndexSet;
 use std::alloc::{AllocError, Global};
 
 /// The names of a list, in its order, in work linear in its bytes. It refuses an empty name, one
 /// that is no name, and a name that occurs twice.
-pub(crate) fn names_in<'a>(alloc: Global, text: &'a str) -> Result<Vec<&'a str>, WordsError>
+pub(crate) fn names_in<'a>(
+    alloc: Global,
+    text: &'a str,
+) -> Result<Vec<&'a str>, Refusal<WordsFault>>
     ensures found { IfOk result (λ names. spec.IsList text.entry.now
         (map (λ name. name.now) names.items)) }
     ensures only { IfErr result (λ error. (names : List (List ℕ)) → spec.IsList text.entry.now names
@@ -21,10 +25,10 @@ pub(crate) fn names_in<'a>(alloc: Global, text: &'a str) -> Result<Vec<&'a str>,
 {
     let names = parts(alloc, text)?;
     if !are_names(names.as_slice()) {
-        return Err(WordsError::Words);
+        return Err(Refusal::Fault(WordsFault::Words));
     }
     if !are_distinct(alloc, names.as_slice())? {
-        return Err(WordsError::Words);
+        return Err(Refusal::Fault(WordsFault::Words));
     }
     Ok(names)
 }

@@ -4,11 +4,11 @@ ghost use Rattle.std.specs.Prelude.{◌≡◌, IfOk, IfErr, [], false, map, stri
 ghost use Rattle.clap.specs.Walk.{rule_of};
 ghost use Rattle.clap.specs.Simple.{app_of, subcommand_of, subcommand_rows_of};
 ghost use Rattle.clap.specs.Faults.{fault_of};
-ghost use Rattle.tv_words.specs.declared.WordsError.TheVariants.{NoMemory};
+ghost use Rattle.attempt.specs.declared.refusal.Refusal.TheVariants.{NoMemory};
 ghost use Rattle.tv_words.specs.Commands as spec;
 
-use crate::WordsError;
-use attempt::attempt;
+use crate::{WordsFault, refusal_of};
+use attempt::{Refusal, attempt};
 use clap::{Arg, ArgAction, ArgMatches, Command};
 use std::alloc::{AllocError, Global};
 
@@ -88,7 +88,10 @@ fn program<'a>(alloc: Global) -> Result<Command<'a>, AllocError>
 }
 
 /// What the words give, where the program accepts them.
-pub(crate) fn parsed<'a>(alloc: Global, words: &'a [String]) -> Result<ArgMatches<'a>, WordsError>
+pub(crate) fn parsed<'a>(
+    alloc: Global,
+    words: &'a [String],
+) -> Result<ArgMatches<'a>, Refusal<WordsFault>>
     ensures taken { IfOk result (λ matches. fault_of spec.program (map string_bytes words.entry.now)
         ≡ []) }
     ensures found { IfOk result (λ matches. subcommand_rows_of matches
@@ -96,6 +99,8 @@ pub(crate) fn parsed<'a>(alloc: Global, words: &'a [String]) -> Result<ArgMatche
     ensures only { IfErr result (λ error. fault_of spec.program (map string_bytes words.entry.now)
         ≡ [] → error ≡ NoMemory) }
 {
-    let matches = program(alloc)?.try_get_matches_from(words)?;
-    Ok(matches)
+    match program(alloc)?.try_get_matches_from(words) {
+        Ok(matches) => Ok(matches),
+        Err(refused) => Err(refusal_of(refused)),
+    }
 }

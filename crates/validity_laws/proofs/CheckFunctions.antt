@@ -12,7 +12,8 @@ use Rattle.term_core_spec.specs.declared.Family.TheVariants as family
 use Rattle.term_core_spec.specs.declared.Variable.{Variable}
 use Rattle.term_core_spec.specs.declared.Sort.{Sort}
 use Rattle.term_core_spec.specs.Term.{Term, not_term}
-use Rattle.graph_core_spec.specs.TransitionSystem.{Mark, AreCounted}
+use Rattle.graph_core_spec.specs.TransitionSystem.{AreCounted}
+use Rattle.graph_core_spec.specs.declared.Mark.{Mark}
 use Rattle.proof_tree_spec.specs.Scope.{Setting, InFamily, IsLine}
 use Rattle.proof_tree_spec.specs.Frames.{Start, Goal, Frame, with_premise}
 use Rattle.sim_rules_spec.specs.Rules.{AreOfLeaf, AreTrueWith}

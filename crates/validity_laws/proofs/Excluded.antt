@@ -25,7 +25,7 @@ use Rattle.discharge_spec.specs.declared.GoalQuantity.TheVariants.{Terms, Variab
 use Rattle.discharge_spec.specs.Closing.{Closes, IsLarge, has_no_step, is_truth, checked, closing_of_clauses, closing_of_form, closing, measured, maximum}
 use Rattle.discharge.proofs.Sound.{true_form}
 use Rattle.cert_check_spec.specs.Verdict.{Listed}
-use Rattle.prove_run_spec.specs.declared.Side.TheVariants as side
+use Rattle.sim_rules_spec.specs.declared.Side.TheVariants as side
 use Rattle.prove_run_spec.specs.declared.Measure.TheVariants as measure
 use Rattle.prove_run_spec.specs.Proofs.{AreClosedBy, HasProof, HasTruths}
 use Rattle.prove_run_spec.specs.Trails.{Trail, Later, Large, Refuted, Spent, IsObligation, IsTrail}

@@ -12,7 +12,7 @@ use Rattle.decompile_laws.specs.Together.{setting}
 use Rattle.c_graph_spec.specs.State.{memory}
 use Rattle.c_graph_spec.specs.SourceGraph.{body_number, graph_of, graphs_of}
 use Rattle.c_graph_laws.proofs.ValidGraphs.{all_valid}
-use Rattle.graph_core_spec.specs.TransitionSystem.{Mark}
+use Rattle.graph_core_spec.specs.declared.Mark.{Mark}
 use Rattle.proof_tree_spec.specs.Frames.{Start, Goal}
 use Rattle.sim_rules_spec.specs.Points.{is_binary, is_source}
 use Rattle.sim_rules_spec.specs.Sides.{graph_at}

@@ -6,7 +6,7 @@ use Rattle.std.proofs.lemmas.List.Elements.{All-nil, All-cons, All-append, All-h
 use Rattle.term_core_spec.specs.declared.Sort.TheVariants.{Truth}
 use Rattle.term_core_spec.specs.Term.{Term, truth, and_term, not_term}
 use Rattle.term_core_spec.specs.Substitution.{State, substituted}
-use Rattle.graph_core_spec.specs.TransitionSystem.{Mark}
+use Rattle.graph_core_spec.specs.declared.Mark.{Mark}
 use Rattle.visit_walk_spec.specs.Visits.{Visit}
 use Rattle.proof_tree_spec.specs.Frames.{Frame, Goal}
 use Rattle.sim_rules_spec.specs.Points.{Convention, same_byte, with_memory}

@@ -7,7 +7,8 @@ use Rattle.elf_read_spec.specs.declared.SymbolValues.TheVariants.{One}
 use Rattle.elf_read_spec.proofs.Runs.{runs_are_fixed, runs_have_bytes}
 use Rattle.code_reach_spec.specs.Code.{IsStack}
 use Rattle.term_core_spec.specs.Term.{Term, not_term}
-use Rattle.graph_core_spec.specs.TransitionSystem.{Mark, AreCounted}
+use Rattle.graph_core_spec.specs.TransitionSystem.{AreCounted}
+use Rattle.graph_core_spec.specs.declared.Mark.{Mark}
 use Rattle.graph_core_spec.specs.Graph as graph
 use Rattle.graph_core_spec.specs.Graph.{Node, Graph, Graphs, IsNode, node_at}
 use Rattle.decompile_laws.specs.Together.{setting}

@@ -7,7 +7,8 @@ use Rattle.memory_spec.specs.Zones.{Zone}
 use Rattle.elf_read_spec.specs.Image.{fixed_byte}
 use Rattle.term_core_spec.specs.declared.Width.TheVariants.{W32}
 use Rattle.term_core_spec.specs.Term.{Term, not_term}
-use Rattle.graph_core_spec.specs.TransitionSystem.{IsTransitionSystem, Mark, AreCounted}
+use Rattle.graph_core_spec.specs.TransitionSystem.{IsTransitionSystem, AreCounted}
+use Rattle.graph_core_spec.specs.declared.Mark.{Mark}
 use Rattle.graph_core_spec.specs.Simulation as systems
 use Rattle.graph_core_spec.specs.Simulation.{Simulates}
 use Rattle.graph_core_spec.specs.Graph as graph

@@ -5,7 +5,8 @@ use Rattle.memory_spec.specs.Zones.{Zone}
 use Rattle.elf_read_spec.specs.Image.{size_at}
 use Rattle.code_reach_spec.specs.Faults.{HasNoFault, ReachesNoFault}
 use Rattle.term_core_spec.specs.Term.{Term, not_term}
-use Rattle.graph_core_spec.specs.TransitionSystem.{Mark, AreCounted}
+use Rattle.graph_core_spec.specs.TransitionSystem.{AreCounted}
+use Rattle.graph_core_spec.specs.declared.Mark.{Mark}
 use Rattle.graph_core_spec.specs.Graph.{Graph}
 use Rattle.decompile_spec.specs.CodeGraph.{IsCodeGraph}
 use Rattle.decompile_laws.specs.Together.{AreCodeGraphs, setting}

@@ -5,7 +5,7 @@ use Rattle.std.proofs.Math.ListN.{get_or-append}
 use Rattle.std.proofs.lemmas.List.{map-append}
 use Rattle.std.proofs.lemmas.Option.{slice_get-map, same_Some}
 use Rattle.graph_core_spec.specs.declared.Next.{Next}
-use Rattle.visit_walk_spec.specs.declared.Mark.{Mark}
+use Rattle.graph_core_spec.specs.declared.Mark.{Mark}
 use Rattle.visit_walk_spec.specs.DepthFirst.{AreDistinct}
 use Rattle.visit_walk_spec.specs.Visits.{Visit, arrival_of}
 use Rattle.visit_walk_spec.proofs.Members.{none_contained}

@@ -10,7 +10,7 @@ use Rattle.graph_core_spec.specs.declared.Next.{Next}
 use Rattle.graph_core_spec.specs.declared.Next.TheVariants as next
 use Rattle.visit_walk_spec.specs.declared.Successors.{Successors}
 use Rattle.visit_walk_spec.specs.declared.Successors.TheVariants as successors
-use Rattle.visit_walk_spec.specs.declared.Mark.{Mark}
+use Rattle.graph_core_spec.specs.declared.Mark.{Mark}
 use Rattle.visit_walk_spec.specs.declared.Branch.TheVariants.{Only, IfTrue, IfFalse}
 use Rattle.visit_walk_spec.specs.Shape.{Shape, successors_at}
 use Rattle.visit_walk_spec.specs.DepthFirst.{Leads, here, on, AreDistinct}

@@ -4,7 +4,7 @@ use Rattle.std.specs.Prelude.{Contains, nat_eq, slice_index, if◌then◌else◌
 use Rattle.std.specs.Global.{Global}
 use Rattle.std.proofs.lemmas.List.{length-map, length-replicate}
 use Rattle.std.proofs.lemmas.List.Elements.{Contains-get_or}
-use Rattle.visit_walk_spec.specs.declared.Mark.{Mark}
+use Rattle.graph_core_spec.specs.declared.Mark.{Mark}
 use Rattle.visit_walk_spec.specs.declared.Incoming.{Incoming}
 use Rattle.visit_walk_spec.specs.Shape.{Shape}
 use Rattle.visit_walk_spec.specs.DepthFirst.{Takes}
@@ -14,6 +14,7 @@ use Rattle.visit_walk_spec.proofs.Walks.{AreLater, walk_whole}
 use Rattle.visit_walk_spec.proofs.Images.{are_left}
 use Rattle.visit_walk.specs.declared.depth_first.Targets.{Targets}
 use Rattle.visit_walk.specs.declared.table.Table.{Table}
+use Rattle.attempt.specs.declared.refusal.Refusal.{Refusal}
 use Rattle.visit_walk.specs.declared.found.WalkFault.{WalkFault}
 use Rattle.visit_walk.specs.Search.{numbers_at}
 use Rattle.visit_walk.specs.Tables.{seen, vectors_of, visit_at, AreListed}
@@ -120,6 +121,6 @@ module _ (shape : Shape) (ms : List Mark) (start maximum : ℕ) (t : Table) (tar
       short =
           few (length t.keys.keys) order (later-apart (numbers_at targets) order (walk_whole (numbers_at targets) (0 ∷ []) order takes).later) inside
 
-  pub fault_at : {X : Type 0} (r : Result X WalkFault) → IfErr r (IsCycleFault t targets) → IfErr r (IsFaultFrom shape ms start maximum)
+  pub fault_at : {X : Type 0} (r : Result X (Refusal WalkFault)) → IfErr r (IsCycleFault t targets) → IfErr r (IsFaultFrom shape ms start maximum)
   fault_at (Ok x) h = h
   fault_at (Err fault) h = fault_from shape ms start maximum t targets l fault h

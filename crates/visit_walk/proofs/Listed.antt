@@ -3,7 +3,7 @@ use Rattle.std.proofs.Common.{◌≡◌, ℕ, ◌<◌, List, [], ◌∷◌, leng
 use Rattle.std.specs.Prelude.{unwrap_or, Contains}
 use Rattle.std.proofs.lemmas.List.{length-map}
 use Rattle.graph_core_spec.specs.declared.Next.TheVariants as next
-use Rattle.visit_walk_spec.specs.declared.Mark.{Mark}
+use Rattle.graph_core_spec.specs.declared.Mark.{Mark}
 use Rattle.visit_walk_spec.specs.Shape.{Shape}
 use Rattle.visit_walk_spec.specs.DepthFirst.{Takes, Leads}
 use Rattle.visit_walk_spec.specs.Visits.{Visit, Edge, first_of, edges_of, nexts_of}
@@ -13,8 +13,10 @@ use Rattle.visit_walk_spec.proofs.Images.{IsImage, takes_image, leads_inside, le
 use Rattle.visit_walk.specs.declared.depth_first.Targets.{Targets}
 use Rattle.visit_walk.specs.declared.depth_first.Targets.TheVariants.{Zero, One, Two}
 use Rattle.visit_walk.specs.declared.table.Table.{Table}
+use Rattle.attempt.specs.declared.refusal.Refusal.{Refusal}
+use Rattle.attempt.specs.declared.refusal.Refusal.TheVariants.{Fault, NoMemory}
 use Rattle.visit_walk.specs.declared.found.WalkFault.{WalkFault}
-use Rattle.visit_walk.specs.declared.found.WalkFault.TheVariants.{Cyclic, TooMany, NoMemory}
+use Rattle.visit_walk.specs.declared.found.WalkFault.TheVariants.{Cyclic, TooMany}
 use Rattle.visit_walk.specs.Search.{numbers_of, numbers_at}
 use Rattle.visit_walk.specs.Tables.{Holds, seen, vectors_of, visits_of, visit_at, stray, AreEdges, HasTargets, AreListed, AreMore}
 use Rattle.visit_walk.specs.Found.{node_number, IsCyclicIndex, IsCycleFault, IsFaultFrom}
@@ -83,9 +85,9 @@ module _ (shape : Shape) (ms : List Mark) (start maximum : ℕ) (t : Table) (tar
         cycle = cycle;
       }
 
-  pub fault_from : (fault : WalkFault) → IsCycleFault t targets fault → IsFaultFrom shape ms start maximum fault
-  fault_from (Cyclic n) c = cycle_fault n c
-  fault_from (TooMany n) c = absurd c
+  pub fault_from : (fault : Refusal WalkFault) → IsCycleFault t targets fault → IsFaultFrom shape ms start maximum fault
+  fault_from (Fault (Cyclic n)) c = cycle_fault n c
+  fault_from (Fault (TooMany n)) c = absurd c
   fault_from NoMemory c = tt
 
   -- the order of the numbers is that of the visits

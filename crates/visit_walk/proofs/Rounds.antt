@@ -3,7 +3,7 @@ use Rattle.std.proofs.Common.{◌≡◌, ℕ, zero, suc, ◌+◌, ◌≤◌, Lis
 use Rattle.std.specs.Prelude.{slice_get, unwrap_or, Option, Some, None}
 use Rattle.std.proofs.lemmas.Option.{slice_get_past}
 use Rattle.graph_core_spec.specs.declared.Next.TheVariants as next
-use Rattle.visit_walk_spec.specs.declared.Mark.{Mark}
+use Rattle.graph_core_spec.specs.declared.Mark.{Mark}
 use Rattle.visit_walk_spec.specs.declared.Successors.TheVariants.{One}
 use Rattle.visit_walk_spec.specs.Shape.{Shape}
 use Rattle.visit_walk.specs.declared.depth_first.Targets.{Targets}

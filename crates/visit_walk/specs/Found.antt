@@ -3,7 +3,7 @@ use Rattle.std.specs.Prelude.{◌≡◌, ◌<◌, ◌≤◌, ℕ, List, [], ◌�
 use Rattle.std.specs.Global.{Global}
 use Rattle.graph_core_spec.specs.declared.Next.{Next}
 use Rattle.graph_core_spec.specs.declared.Next.TheVariants as next
-use Rattle.visit_walk_spec.specs.declared.Mark.{Mark}
+use Rattle.graph_core_spec.specs.declared.Mark.{Mark}
 use Rattle.visit_walk_spec.specs.declared.Incoming.{Incoming}
 use Rattle.visit_walk_spec.specs.Shape.{Shape}
 use Rattle.visit_walk_spec.specs.DepthFirst.{Takes}
@@ -13,8 +13,10 @@ use Rattle.visit_walk_spec.specs.Outcomes.{IsCyclicFrom, AreTooManyFrom}
 use Rattle.visit_walk_spec.specs.Listing.{Listing}
 use Rattle.visit_walk.specs.declared.depth_first.Targets.{Targets}
 use Rattle.visit_walk.specs.declared.table.Table.{Table}
+use Rattle.attempt.specs.declared.refusal.Refusal.{Refusal}
+use Rattle.attempt.specs.declared.refusal.Refusal.TheVariants.{Fault, NoMemory}
 use Rattle.visit_walk.specs.declared.found.WalkFault.{WalkFault}
-use Rattle.visit_walk.specs.declared.found.WalkFault.TheVariants.{Cyclic, TooMany, NoMemory}
+use Rattle.visit_walk.specs.declared.found.WalkFault.TheVariants.{Cyclic, TooMany}
 use Rattle.visit_walk.specs.Search.{numbers_at, IsCycleFrom}
 use Rattle.visit_walk.specs.Tables.{IsTable, IsEmpty, AreListed, visit_at}
 use Rattle.visit_walk.specs.Listings.{incoming_lists, list_at}
@@ -55,16 +57,16 @@ pub record IsCyclicIndex (table : Table) (targets : List Targets) (n : ℕ) : Ty
   pub cycle : IsCycleFrom targets (0 ∷ []) index
   pub node_is : n ≡ node_number (visit_at table index).place
 
-abbrev pub IsCycleFault : Table → List Targets → WalkFault → Type 0
-IsCycleFault table targets (Cyclic n) = IsCyclicIndex table targets n
-IsCycleFault table targets (TooMany n) = ⊥
+abbrev pub IsCycleFault : Table → List Targets → Refusal WalkFault → Type 0
+IsCycleFault table targets (Fault (Cyclic n)) = IsCyclicIndex table targets n
+IsCycleFault table targets (Fault (TooMany n)) = ⊥
 IsCycleFault table targets NoMemory = Unit {0}
 
 module _ (shape : Shape) (ms : List Mark) (start maximum : ℕ) where
   -- why there is no list; out of memory may come at any time
-  abbrev pub IsFaultFrom : WalkFault → Type 0
-  IsFaultFrom (Cyclic n) = IsCyclicFrom (nexts_of shape ms) (first_of start ms) n
-  IsFaultFrom (TooMany n) = AreTooManyFrom (nexts_of shape ms) (first_of start ms) maximum n
+  abbrev pub IsFaultFrom : Refusal WalkFault → Type 0
+  IsFaultFrom (Fault (Cyclic n)) = IsCyclicFrom (nexts_of shape ms) (first_of start ms) n
+  IsFaultFrom (Fault (TooMany n)) = AreTooManyFrom (nexts_of shape ms) (first_of start ms) maximum n
   IsFaultFrom NoMemory = Unit {0}
 
   pub record AreFound (table : Table) (targets : List Targets) (order : List ℕ) : Type 0 where
@@ -77,5 +79,5 @@ module _ (shape : Shape) (ms : List Mark) (start maximum : ℕ) where
     pub few : length order ≤ maximum
     pub edges_are : map (list_at (incoming_lists incoming)) order ≡ all_edges_after (edges_of shape ms) (map (visit_at table) order)
 
-abbrev pub IsWalkFault : Walk → (maximum : ℕ) → WalkFault → Type 0
+abbrev pub IsWalkFault : Walk → (maximum : ℕ) → Refusal WalkFault → Type 0
 IsWalkFault w maximum fault = IsFaultFrom w.shape (marks w) w.start maximum fault

@@ -9,10 +9,9 @@ ghost use Rattle.visit_walk_spec.specs.Visits as spec;
 ghost use Rattle.visit_walk.specs.Tables.{lists_of, vector_at, Extends, Holds};
 
 use attempt::attempt;
-use graph_core_spec::Next;
+use graph_core_spec::{Mark, Next};
 use indexmap::IndexSet;
 use std::alloc::{AllocError, Global};
-use visit_walk_spec::Mark;
 
 /// Whether an arrival at a node, after which a mark has this count, is the last that it counts.
 fn is_full(mark: &Mark, count: usize, node: usize) -> bool

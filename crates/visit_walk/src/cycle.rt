@@ -12,10 +12,10 @@ ghost use Rattle.visit_walk.specs.Search.{numbers_of};
 use crate::counts::{is_last, is_marked, zeros};
 use crate::depth_first::{Targets, depth_first};
 use crate::table::successors_at;
-use graph_core_spec::Next;
+use graph_core_spec::{Mark, Next};
 use indexmap::IndexSet;
 use std::alloc::{AllocError, Global};
-use visit_walk_spec::{Mark, Successors};
+use visit_walk_spec::Successors;
 
 /// Whether a mark counts the first arrival at a node, or none.
 fn is_closed(marks: &[Mark], node: usize) -> bool

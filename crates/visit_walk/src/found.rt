@@ -2,7 +2,6 @@
 
 ghost use Rattle.std.specs.Prelude.{◌≡◌, ◌++◌, [], reverse, IfOk, IfErr, OnOk};
 ghost use Rattle.visit_walk_spec.specs.Listing.{IsListing};
-ghost use Rattle.visit_walk.specs.declared.found.WalkFault.TheVariants.{NoMemory};
 ghost use Rattle.visit_walk.specs.Tables.{visit_at, AreMore};
 ghost use Rattle.visit_walk.specs.Found.{node_number, walk_of, AreEmpty, AreFound, AreFilled};
 ghost use Rattle.visit_walk.specs.Found.{IsPostOrder, IsCycleFault, IsFaultFrom, IsWalkFault};
@@ -13,10 +12,11 @@ use crate::list::Visits;
 use crate::listing::{add_all_edges, add_empty};
 use crate::shape::Shape;
 use crate::table::{Key, Table, explore};
-use attempt::attempt;
+use attempt::{Refusal, attempt};
+use graph_core_spec::Mark;
 use indexmap::IndexSet;
 use std::alloc::{AllocError, Global};
-use visit_walk_spec::{Incoming, Mark, Successors};
+use visit_walk_spec::{Incoming, Successors};
 
 /// Why there is no list of visits.
 #[derive(Clone, Copy)]
@@ -26,16 +26,6 @@ pub enum WalkFault {
     /// The visits are more than the maximum; this is a number above it, and there are at least so
     /// many.
     TooMany(usize),
-    /// There was no memory.
-    NoMemory,
-}
-
-impl From<AllocError> for WalkFault {
-    ghost from_gives = { λ _ fault. fault ≡ NoMemory };
-
-    fn from(_: AllocError) -> Self {
-        WalkFault::NoMemory
-    }
 }
 
 /// The node of the visit at an index of the table.
@@ -55,13 +45,13 @@ fn order_visits(
     table: &Table,
     targets: &[Targets],
     order: &mut Vec<usize>,
-) -> Result<(), WalkFault>
+) -> Result<(), Refusal<WalkFault>>
     requires { order.old.items ≡ [] }
     ensures ordered { OnOk result (IsPostOrder targets.now order.new.items) }
     ensures fault { IfErr result (IsCycleFault table.now targets.now) }
 {
     match depth_first(alloc, targets, &[0], order)? {
-        Some(index) => Err(WalkFault::Cyclic(node_at(table, index))),
+        Some(index) => Err(Refusal::Fault(WalkFault::Cyclic(node_at(table, index)))),
         None => Ok(()),
     }
 }
@@ -74,13 +64,13 @@ fn overflow(
     start: usize,
     maximum: usize,
     table: &Table,
-) -> Result<WalkFault, AllocError>
+) -> Result<Refusal<WalkFault>, AllocError>
     requires { AreMore shape.now marks.now start maximum table.now }
     ensures { IfOk result (IsFaultFrom shape.now marks.now start maximum) }
 {
     match cyclic_node(alloc, shape, marks, start)? {
-        Some(node) => Ok(WalkFault::Cyclic(node)),
-        None => Ok(WalkFault::TooMany(table.keys.len())),
+        Some(node) => Ok(Refusal::Fault(WalkFault::Cyclic(node))),
+        None => Ok(Refusal::Fault(WalkFault::TooMany(table.keys.len()))),
     }
 }
 
@@ -95,7 +85,7 @@ fn find(
     table: &mut Table,
     targets: &mut Vec<Targets>,
     order: &mut Vec<usize>,
-) -> Result<(), WalkFault>
+) -> Result<(), Refusal<WalkFault>>
     requires { AreEmpty table.old targets.old.items order.old.items }
     ensures found { OnOk result (AreFound shape.now marks.now start maximum table.new
         targets.new.items order.new.items) }
@@ -125,7 +115,7 @@ fn fill(
     table: &mut Table,
     order: &mut Vec<usize>,
     incoming: &mut Vec<Vec<Incoming>>,
-) -> Result<(), WalkFault>
+) -> Result<(), Refusal<WalkFault>>
     requires { AreEmpty table.old incoming.old.items order.old.items }
     ensures filled { OnOk result (AreFilled shape.now marks.now start maximum table.new
         order.new.items incoming.new.items) }
@@ -169,7 +159,7 @@ pub fn visits(
     stops: &[Mark],
     bounds: &[Mark],
     maximum: usize,
-) -> Result<Visits, WalkFault>
+) -> Result<Visits, Refusal<WalkFault>>
     ensures listing { IfOk result (IsListing (walk_of shape.now.successors.items start
         stops.now bounds.now) maximum) }
     ensures fault { IfErr result (IsWalkFault (walk_of shape.now.successors.items start

@@ -6,9 +6,9 @@ ghost use Rattle.visit_walk.specs.Tables.{stray};
 
 use crate::counts::{counts_after, is_last_at};
 use crate::table::{Table, counts_of, place_of};
-use graph_core_spec::Next;
+use graph_core_spec::{Mark, Next};
 use std::marker::Model;
-use visit_walk_spec::{Incoming, Mark};
+use visit_walk_spec::Incoming;
 
 /// The visits of a walk, in reversed post-order of the depth-first walk that takes the true branch
 /// of a test first, and the edges into each. A visit is known by its position in this order.

@@ -12,10 +12,10 @@ ghost use Rattle.visit_walk_spec.specs.DepthFirst.{AreDistinct};
 use crate::counts::{count, intern, is_last, zeros};
 use crate::depth_first::Targets;
 use attempt::attempt;
-use graph_core_spec::Next;
+use graph_core_spec::{Mark, Next};
 use indexmap::IndexSet;
 use std::alloc::{AllocError, Global};
-use visit_walk_spec::{Mark, Successors};
+use visit_walk_spec::Successors;
 
 /// A visit, whose counts are given by their index.
 #[derive(Clone, Copy, PartialEq, Eq, Hash)]

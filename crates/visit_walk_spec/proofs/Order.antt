@@ -2,7 +2,7 @@
 use Rattle.std.proofs.Common.{◌≡◌, ◌⊎◌, ℕ, Bool, true, false, List, [], ◌∷◌, ◌++◌, length, drop, refl, sym, ◌∙◌, ap, subst, inl, inr}
 use Rattle.std.specs.Prelude.{Contains, ◌||◌, ◌&&◌, not}
 use Rattle.graph_core_spec.specs.declared.Next.{Next}
-use Rattle.visit_walk_spec.specs.declared.Mark.{Mark}
+use Rattle.graph_core_spec.specs.declared.Mark.{Mark}
 use Rattle.visit_walk_spec.specs.DepthFirst.{Takes, none, again, first, Leads}
 use Rattle.visit_walk_spec.specs.Visits.{Walk, Visit, first_visit, nexts, is_full, is_last, is_stop, is_bounded, is_marked_end}
 use Rattle.visit_walk_spec.specs.Outcomes.{AreVisits, IsAcyclic}

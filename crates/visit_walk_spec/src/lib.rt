@@ -27,15 +27,6 @@ pub enum Successors {
     Nothing,
 }
 
-/// A node, and a number of arrivals at it: at least one.
-#[derive(Clone, Copy)]
-pub struct Mark {
-    /// The node.
-    pub node: usize,
-    /// The number of arrivals.
-    pub count: usize,
-}
-
 /// Which edge of a visit.
 #[derive(Clone, Copy)]
 pub enum Branch {

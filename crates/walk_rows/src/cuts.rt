@@ -8,15 +8,15 @@ use crate::graphs;
 use crate::words::mark;
 use attempt::attempt;
 use graph_core::{Graph, GraphRun};
+use graph_core_spec::Mark;
 use proof_tree::{Frame, Hold, Premise, Setting, Start};
-use proof_tree_spec::{Counts, Cut, Mark as Bound, Nodes};
+use proof_tree_spec::{Counts, Cut, Nodes};
 use row_io::{Out, split_at};
 use sim_cut::cut_allowed;
 use std::alloc::{AllocError, Global};
 use std::mem;
 use term_core::Term;
 use term_core_spec::Atom;
-use visit_walk_spec::Mark;
 
 // A start, a goal and a cut.
 #[derive(Clone, Copy)]
@@ -73,8 +73,8 @@ fn read(alloc: Global, text: &str) -> Result<Asked, AllocError> {
 // Adds what no goal looks at: a premise and a bound on each side.
 fn fill<'a>(start: &mut Start<'a>, term: &'a Term) -> Result<(), AllocError> {
     attempt!(start.add_premise(Premise { term, holds: false }));
-    attempt!(start.add_binary_bound(Bound { node: 3, count: 1 }));
-    start.add_source_bound(Bound { node: 3, count: 1 })
+    attempt!(start.add_binary_bound(Mark { node: 3, count: 1 }));
+    start.add_source_bound(Mark { node: 3, count: 1 })
 }
 
 // Puts another start in place of a frame's.

@@ -7,7 +7,7 @@
 ghost use Rattle.std.specs.Prelude.{◌<◌, length};
 
 use crate::words::read;
-use attempt::attempt;
+use attempt::{Refusal, attempt};
 use graph_core_spec::Next;
 use row_io::Out;
 use std::alloc::{AllocError, Global};
@@ -69,15 +69,15 @@ fn add_visits(out: &mut Out, found: &Visits) {
     }
 }
 
-fn add_fault(out: &mut Out, fault: WalkFault, maximum: usize) {
+fn add_fault(out: &mut Out, fault: Refusal<WalkFault>, maximum: usize) {
     match fault {
-        WalkFault::Cyclic(node) => {
+        Refusal::Fault(WalkFault::Cyclic(node)) => {
             out.put("cyclic ");
             out.show(&node);
         }
-        WalkFault::TooMany(count) if count > maximum => out.put("too many"),
-        WalkFault::TooMany(_) => out.put("too few"),
-        WalkFault::NoMemory => out.fail(),
+        Refusal::Fault(WalkFault::TooMany(count)) if count > maximum => out.put("too many"),
+        Refusal::Fault(WalkFault::TooMany(_)) => out.put("too few"),
+        Refusal::NoMemory => out.fail(),
     }
 }
 

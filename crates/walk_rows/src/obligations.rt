@@ -14,10 +14,11 @@ use crate::frames::{frame, run, setting};
 use crate::graphs;
 use crate::graphs::term;
 use crate::words::{mark, number};
-use attempt::attempt;
+use attempt::{Refusal, attempt};
 use graph_core::{Graph, GraphRun};
+use graph_core_spec::Mark;
 use proof_tree::{Frame, Goal, Hold, Premise, Reachable, Start, Stop};
-use proof_tree_spec::{Mark as Bound, Nodes};
+use proof_tree_spec::Nodes;
 use row_io::{Out, split, split_at};
 use sim_rules::{Rule, RuleFault, Setup, obligations};
 use sim_rules_terms::{Convention, Known, Opening};
@@ -25,7 +26,6 @@ use std::alloc::{AllocError, Global};
 use std::collections::HashMap;
 use term_bank::{Bank, TermId};
 use term_core::Term;
-use visit_walk_spec::Mark;
 
 /// What a question says of a frame.
 #[derive(Drop)]
@@ -34,14 +34,14 @@ struct Asked {
     back: Vec<Box<Term>>,
     there: Vec<Box<Term>>,
     goals: Vec<Mark>,
-    bounds: Vec<Bound>,
-    others: Vec<Bound>,
+    bounds: Vec<Mark>,
+    others: Vec<Mark>,
     most: usize,
 }
 
-fn bound(text: &str) -> Bound {
+fn bound(text: &str) -> Mark {
     let mark = mark(text);
-    Bound {
+    Mark {
         node: mark.node,
         count: mark.count,
     }
@@ -192,18 +192,18 @@ fn add_terms(out: &mut Out, bank: &Bank, terms: &[TermId]) {
     }
 }
 
-fn add_fault(out: &mut Out, fault: RuleFault) {
+fn add_fault(out: &mut Out, fault: Refusal<RuleFault>) {
     match fault {
-        RuleFault::Sort(index) => {
+        Refusal::Fault(RuleFault::Sort(index)) => {
             out.put("sort ");
             out.show(&index);
         }
-        RuleFault::Cyclic(node) => {
+        Refusal::Fault(RuleFault::Cyclic(_, node)) => {
             out.put("cyclic ");
             out.show(&node);
         }
-        RuleFault::Large(_) => out.put("large"),
-        RuleFault::NoMemory => out.fail(),
+        Refusal::Fault(RuleFault::Large(_, _)) => out.put("large"),
+        Refusal::NoMemory => out.fail(),
     }
 }
 

@@ -4,11 +4,11 @@
 // `A/B` for a test, or `call`. A mark is `NODE:COUNT`.
 
 use attempt::attempt;
-use graph_core_spec::Next;
+use graph_core_spec::{Mark, Next};
 use row_io::decimal;
 use std::alloc::{AllocError, Global};
 use visit_walk::Shape;
-use visit_walk_spec::{Mark, Successors};
+use visit_walk_spec::Successors;
 
 /// A walk, and the maximum of its visits.
 #[derive(Drop)]

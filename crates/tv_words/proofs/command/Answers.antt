@@ -1,6 +1,6 @@
 use Rattle.std.proofs.Common.{◌≡◌}
 use Rattle.tv_words.specs.Jobs.{job_of}
-use Rattle.tv_words.specs.declared.WordsError.TheVariants.{NoMemory}
+use Rattle.attempt.specs.declared.refusal.Refusal.TheVariants.{NoMemory}
 use Rattle.tv_words.proofs.Commands.{job_commanded, job_alone, refused_alike}
 use Rattle.tv_words.proofs.command.Goals as goal
 

@@ -5,6 +5,7 @@ use Rattle.c_types_core.specs.Expressions.{core_of}
 use Rattle.c_types_core.specs.Actions.{action_of}
 use Rattle.c_types_core.proofs.ActionViews.{Leave-view, Loop-view, MissingReturn-view}
 use Rattle.c_run_spec.specs.declared.Guard.TheVariants as guards
+use Rattle.attempt.specs.declared.refusal.Refusal.TheVariants.{Fault}
 use Rattle.c_run_value.specs.declared.setting.Stop.TheVariants as stop
 use Rattle.c_run_value.specs.Settings.{setting_of}
 use Rattle.c_run.specs.declared.frame.Next.TheVariants as next
@@ -25,4 +26,4 @@ returns-in-Loop c = loops _ c.args.frame.now c.repeat.new.frame c.args.memory.no
 
 pub returns-in-MissingReturn : goal.returns-in-MissingReturn
 returns-in-MissingReturn c =
-    subst (λ a. Acts (setting_of c.args.setting.now) a c.args.frame.now c.args.memory.now c.args.frame.now c.args.memory.now (Err (stop.Broke guards.MissingReturn c.in-MissingReturn.offset))) (sym (ap action_of c.in-MissingReturn.is ∙ MissingReturn-view c.in-MissingReturn.offset)) (lacks_return (setting_of c.args.setting.now) c.args.frame.now c.args.memory.now c.in-MissingReturn.offset)
+    subst (λ a. Acts (setting_of c.args.setting.now) a c.args.frame.now c.args.memory.now c.args.frame.now c.args.memory.now (Err (Fault (stop.Broke guards.MissingReturn c.in-MissingReturn.offset)))) (sym (ap action_of c.in-MissingReturn.is ∙ MissingReturn-view c.in-MissingReturn.offset)) (lacks_return (setting_of c.args.setting.now) c.args.frame.now c.args.memory.now c.in-MissingReturn.offset)

@@ -1,5 +1,6 @@
 use Rattle.std.proofs.Common.{Err, sym, subst}
 use Rattle.proof_tree.specs.Frames.{frame_of}
+use Rattle.attempt.specs.declared.refusal.Refusal.{Refusal}
 use Rattle.cert_check.specs.declared.fault.PartFault.{PartFault}
 use Rattle.cert_check.specs.Steps.{AreGoalsOf}
 use Rattle.cert_check.proofs.InPart.{goals_made, goals_fail}
@@ -12,5 +13,5 @@ returns-in-Ok-clause-goals c = λ n o convention_is opening_is.
 
 pub returns-in-Err-clause-goals : goal.returns-in-Err-clause-goals
 returns-in-Err-clause-goals c = λ n o convention_is opening_is.
-    subst (λ (fault : PartFault). AreGoalsOf n o (frame_of c.args.frame.now) c.obligations.new.bank (Err fault)) (sym c.leaf_fault.ensures)
+    subst (λ (fault : Refusal PartFault). AreGoalsOf n o (frame_of c.args.frame.now) c.obligations.new.bank (Err fault)) (sym c.leaf_fault.ensures)
     (goals_fail n o (frame_of c.args.frame.now) c.obligations.new.bank c.in-Err.fault (c.in-Err.ensures.fault o))

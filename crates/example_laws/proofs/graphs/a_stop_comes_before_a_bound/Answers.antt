@@ -1,7 +1,8 @@
 use Rattle.std.proofs.Common.{◌≡◌, ◌∙◌, ℕ, ◌+◌, ◌<◌, zero, suc, true, false, [], ◌∷◌, refl, sym, ap, lit<, arith}
 use Rattle.std.specs.List.{All}
 use Rattle.std.proofs.lemmas.List.Elements.{All-from_recursion}
-use Rattle.graph_core_spec.specs.TransitionSystem.{Mark, arrivals, stopped}
+use Rattle.graph_core_spec.specs.TransitionSystem.{arrivals, stopped}
+use Rattle.graph_core_spec.specs.declared.Mark.{Mark}
 use Rattle.example_laws.specs.Countdown.{countdown}
 use Rattle.example_laws.proofs.GraphCountdown.{countdown_is_system}
 use Rattle.graph_core_spec.proofs.Runs.{stopped_on}

@@ -10,4 +10,4 @@ returns-in-Ok g c = λ f is truths.
     c.args.function.now is truths c.search.result c.search.ensures
 
 pub returns-in-Err : goal.returns-in-Err
-returns-in-Err g c = λ f is truths. c.why.ensures f is (c.in-Err.ensures.goals f is)
+returns-in-Err g c = λ f is truths. c.why.ensures f (c.in-Err.ensures.goals f is)

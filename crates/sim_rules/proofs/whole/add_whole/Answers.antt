@@ -3,7 +3,7 @@ use Rattle.std.proofs.lemmas.Result.{on_ok_weaker}
 use Rattle.proof_tree.specs.Frames.{frame_of}
 use Rattle.sim_rules_terms.specs.Ways.{walk_on}
 use Rattle.sim_rules.specs.declared.plan.Plan.{Plan}
-use Rattle.sim_rules.specs.declared.side.Side.TheVariants.{Binary, Source}
+use Rattle.sim_rules_spec.specs.declared.Side.TheVariants.{Binary, Source}
 use Rattle.sim_rules.specs.Made.{IsMade}
 use Rattle.sim_rules.specs.Plans.{plan_for}
 use Rattle.sim_rules.proofs.Faulty.{rule_answer}

@@ -4,7 +4,7 @@ use Rattle.std.specs.List.{fold}
 use Rattle.term_core_spec.specs.Term.{Term, and_term}
 use Rattle.term_bank.specs.Nodes.{Holds}
 use Rattle.term_bank.proofs.Substitution.{extends_through}
-use Rattle.proof_tree_spec.specs.declared.Mark.{Mark}
+use Rattle.graph_core_spec.specs.declared.Mark.{Mark}
 use Rattle.proof_tree.specs.Frames.{mark_of}
 use Rattle.sim_rules_spec.specs.Sides.{unbroken}
 use Rattle.sim_rules_terms.proofs.Bounds.{bound_more}

@@ -4,7 +4,7 @@ use Rattle.term_core_spec.specs.Term.{Term, and_term, truth}
 use Rattle.term_core_spec.specs.Substitution.{substituted}
 use Rattle.term_bank.proofs.Substitution.{extends_through}
 use Rattle.term_substitution.specs.States.{IsAt}
-use Rattle.proof_tree_spec.specs.declared.Mark.{Mark}
+use Rattle.graph_core_spec.specs.declared.Mark.{Mark}
 use Rattle.proof_tree_spec.specs.Frames.{Start}
 use Rattle.proof_tree.specs.declared.frame.Premise.{Premise}
 use Rattle.proof_tree.specs.Frames.{mark_of, premise_of}

@@ -3,6 +3,7 @@ use Rattle.std.specs.Prelude.{string_bytes}
 use Rattle.tv_core.specs.Decisions.{trails_of}
 use Rattle.tv_core.proofs.Ending.{ends_valid, ends_unproved, ends_as_decided, ends_by_usage, not_cut, hands_out, ends_failed, ends_without_memory}
 use Rattle.tv_core.proofs.Plain.{no_trails_of}
+use Rattle.attempt.specs.declared.refusal.Refusal.TheVariants.{Fault}
 use Rattle.tv_core.proofs.running.run.Goals as goal
 
 pub returns-in-Ok : goal.returns-in-Ok
@@ -31,10 +32,10 @@ returns-in-Ok g c =
       };
     }
 
-pub returns-in-Err-Failed : goal.returns-in-Err-Failed
-returns-in-Err-Failed g c =
+pub returns-in-Err-Fault-Failed : goal.returns-in-Err-Fault-Failed
+returns-in-Err-Fault-Failed g c =
     ends_failed _ _ _ _ _ c.try_run.result c.try_run.ensures (no_trails_of c.new.result c.new.ensures.unproved c.new.ensures.over)
-    (c.in-Err-Failed.is ∙ ap Err c.in-Err-Failed.field-0-is)
+    (c.in-Err-Fault-Failed.is ∙ ap Err (c.in-Err-Fault-Failed.field-0-is ∙ ap Fault c.in-Err-Fault-Failed.field-0-0-is))
 
 pub returns-in-Err-NoMemory : goal.returns-in-Err-NoMemory
 returns-in-Err-NoMemory g c =

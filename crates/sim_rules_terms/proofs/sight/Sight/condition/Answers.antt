@@ -1,6 +1,6 @@
 use Rattle.std.proofs.Common.{◌≡◌, ◌∙◌, ℕ, ◌<◌, List, length, sym, ap, subst}
 use Rattle.std.specs.List.{All}
-use Rattle.visit_walk_spec.specs.declared.Mark.{Mark}
+use Rattle.graph_core_spec.specs.declared.Mark.{Mark}
 use Rattle.sim_rules_spec.specs.Sides.{members}
 use Rattle.sim_rules_terms.specs.Which.{test_of}
 use Rattle.sim_rules_terms.proofs.Members.{members_within}
