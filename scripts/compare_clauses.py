@@ -85,7 +85,9 @@ fn blasted(alloc: Global, goal: &str) -> anyhow::Result<Blasted> {
     let mut read = Vec::new(alloc);
     let given = term(&mut bank, &mut read, words)?;
     let made = if is_formed { normal(alloc, &mut bank, given, &runs)? } else { given };
-    let blasted = blast(alloc, &bank, made, usize::MAX)?;
+    let Ok(blasted) = blast(alloc, &bank, made, usize::MAX) else {
+        anyhow::bail!("no clauses");
+    };
     Ok(blasted)
 }
 

@@ -18,7 +18,7 @@ from pathlib import Path
 
 from probe import ask
 
-CRATES = ["elf_read", "code_reach"]
+CRATES = ["attempt", "elf_read", "code_reach"]
 
 SOURCE = """
 typedef unsigned u32; typedef unsigned char u8;
@@ -47,6 +47,7 @@ FLAGS = ["-march=rv32im", "-mabi=ilp32", "-ffreestanding", "-nostdlib", "-fno-bu
 PROBE = r"""//! Lists segments, symbols, and code, reached functions and stack of each function of executables.
 #![tactic(auto)]
 
+use attempt::Refusal;
 use code_reach::{code, reach, stack};
 use elf_read::read;
 use std::env;
@@ -60,8 +61,12 @@ fn main(rt: HostRuntime) -> anyhow::Result<()> {
         let bytes = fs::read(&rt, name.as_str())?;
         let image = match read(rt.alloc(), bytes.as_slice()) {
             Ok(image) => image,
-            Err(error) => {
-                println!(rt; "= refused {error:?}")?;
+            Err(Refusal::Fault(fault)) => {
+                println!(rt; "= refused {fault:?}")?;
+                continue;
+            }
+            Err(Refusal::NoMemory) => {
+                println!(rt; "= refused no memory")?;
                 continue;
             }
         };
@@ -85,7 +90,8 @@ fn main(rt: HostRuntime) -> anyhow::Result<()> {
                         println!(rt; "= word {address} {word}")?;
                     }
                 }
-                Err(error) => println!(rt; "= code {error}")?,
+                Err(Refusal::Fault(fault)) => println!(rt; "= code {fault}")?,
+                Err(Refusal::NoMemory) => println!(rt; "= code no memory")?,
             }
             match reach(rt.alloc(), &image, symbol.value) {
                 Ok(found) => {
@@ -93,12 +99,14 @@ fn main(rt: HostRuntime) -> anyhow::Result<()> {
                         println!(rt; "= entry {entry}")?;
                     }
                 }
-                Err(error) => println!(rt; "= reach {error}")?,
+                Err(Refusal::Fault(fault)) => println!(rt; "= reach {fault}")?,
+                Err(Refusal::NoMemory) => println!(rt; "= reach no memory")?,
             }
             match stack(rt.alloc(), &image, symbol.value) {
                 Ok(Some(depth)) => println!(rt; "= depth {depth}")?,
                 Ok(None) => println!(rt; "= cycle")?,
-                Err(error) => println!(rt; "= stack {error}")?,
+                Err(Refusal::Fault(fault)) => println!(rt; "= stack {fault}")?,
+                Err(Refusal::NoMemory) => println!(rt; "= stack no memory")?,
             }
         }
     }

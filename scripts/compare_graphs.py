@@ -19,7 +19,7 @@ from pathlib import Path
 from probe import ask
 from terms import operate
 
-CRATES = ["rv_instr", "rv_machine", "elf_read", "code_reach", "term_core_spec", "term_bank", "graph_core_spec", "graph_core", "decompile", "indexmap"]
+CRATES = ["attempt", "rv_instr", "rv_machine", "elf_read", "code_reach", "term_core_spec", "term_bank", "graph_core_spec", "graph_core", "decompile", "indexmap"]
 
 # Its arguments are executables. Reads lines of hexadecimal numbers: `graphs`, the place of a file and entries, ascending; or
 # `run`, the place of a file, an entry, a maximum of steps, x1 to x31, and words of memory from 00040000 on. Prints the
@@ -29,6 +29,7 @@ PROBE = r"""//! Prints graphs, and runs the machine.
 
 mod numbers;
 
+use attempt::Refusal;
 use elf_read::{Image, read};
 use graph_core::{SharedBinding, SharedNode};
 use graph_core_spec::Next;
@@ -165,7 +166,8 @@ fn show(rt: &HostRuntime, image: &Image<'_>, entries: &[u32]) -> anyhow::Result<
                     println!(rt; "{out}")?;
                 }
             }
-            Err(error) => println!(rt; "refused {error:?}")?,
+            Err(Refusal::Fault(fault)) => println!(rt; "refused {fault:?}")?,
+            Err(Refusal::NoMemory) => println!(rt; "refused: no memory")?,
         }
     }
     Ok(())
@@ -208,7 +210,8 @@ fn main(rt: HostRuntime) -> anyhow::Result<()> {
         match read(rt.alloc(), file.as_slice()) {
             Ok(image) if first == "graphs" => show(&rt, &image, &n[1..])?,
             Ok(image) => go(&rt, &image, &n[1..])?,
-            Err(error) => println!(rt; "refused {error:?}")?,
+            Err(Refusal::Fault(fault)) => println!(rt; "refused {fault:?}")?,
+            Err(Refusal::NoMemory) => println!(rt; "refused: no memory")?,
         }
     }
     Ok(())

@@ -18,13 +18,14 @@ from pathlib import Path
 
 from probe import ask
 
-CRATES = ["c_token"]
+CRATES = ["attempt", "c_token"]
 
 # Reads lines of hexadecimal bytes, each a text, and prints for each its fault, or its tokens: after `!`
 # all of them, else their count and a sum over the bytes in which they would be printed.
 PROBE = r"""//! Prints the tokens of texts that are lines of hexadecimal bytes.
 #![tactic(auto)]
 
+use attempt::Refusal;
 use c_token::tokens;
 use std::io::{BufRead, BufReader};
 
@@ -53,7 +54,8 @@ fn main(rt: HostRuntime) -> anyhow::Result<()> {
             }
         }
         match tokens(rt.alloc(), text.as_slice()) {
-            Err(error) => println!(rt; "= {error:?}")?,
+            Err(Refusal::Fault(fault)) => println!(rt; "= Fault({fault:?})")?,
+            Err(Refusal::NoMemory) => println!(rt; "= no memory")?,
             Ok(found) => {
                 let mut sum: u64 = 0;
                 let mut count: u64 = 0;

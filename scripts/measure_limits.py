@@ -5,7 +5,7 @@
 
 - each nest that is legal, of expressions, types and statements, at the limits of docs/FORMATS.md, and one deeper;
 - 4 MiB of C of each dense kind (those of `measure_types.py` and `measure_syntax.py`), whole and with a fault at the end;
-- 16 MiB of executables, names that agree in both ends, 65,534 segments, functions of many instructions and branches, 4,096 functions;
+- 16 MiB of executables, names that agree in both ends or are ends of one text, 65,534 segments, functions of many instructions and branches, 4,096 functions;
 - 65,534 runs of fixed bytes, which a store tests, and the certificate of such a proof, or one with the least logs; 65,500
   of them, nearly as many as a graph has nodes for, also beside a source that stores something else;
 - certificates: terms and proofs at depth 128 and one deeper, 64 MiB of each kind of line, good and with a fault at the end.
@@ -129,15 +129,18 @@ def alike(count, defined):
     return executable([(name, [ADD, RET]) for name in names]), source
 
 
-def executable(functions, more=b"", symbols=0, headers=0, runs=0):
+def executable(functions, more=b"", symbols=0, headers=0, runs=0, objects=0, text=0):
     """Functions in one segment; bytes more in it, symbols more, segments of zeros that may be written more, and segments
-    more of one byte that may not, two bytes apart: each is a run of fixed bytes."""
+    more of one byte that may not, two bytes apart: each is a run of fixed bytes; and objects more, whose names are the
+    longest ends of a text of so many bytes."""
     code, table, names = bytearray(), bytearray(16), bytearray(b"\0")
     for name, words in functions:
         table += struct.pack("<IIIBBH", len(names), 0x10000 + len(code), 4 * len(words), 0x12, 0, 1)
         code += b"".join(w.to_bytes(4, "little") for w in words)
         names += name.encode() + b"\0"
     table += struct.pack("<IIIBBH", 1, 0x10000, 0, 0x10, 0, 1) * symbols
+    table += b"".join(struct.pack("<IIIBBH", len(names) + n, 0x10000, 4, 0x11, 0, 1) for n in range(objects))
+    names += b"a" * text + b"\0" * (text > 0)
     code += more
     begin = 52 + 32 * (1 + headers + runs)
     strings = begin + len(code) + len(table)
@@ -259,6 +262,7 @@ def executables(rows):
     prove("16 MiB of data", executable(f, more=bytes(ELF_LIMIT - least)))
     prove("16 MiB of symbols", executable(f, symbols=(ELF_LIMIT - least) // 16))
     prove("200,000 functions with names that agree in both ends, 3,000 listed", *alike(200000, 3000), lambda made: made.status == 0 and made.seconds < 10)
+    prove("480,000 objects whose names are ends of one text of 8 MiB", executable(f, objects=480000, text=8 * MIB), wanted=lambda made: made.status == 0 and made.seconds < 10)
     prove("65,533 segments", executable(f, headers=65533))
     prove("one byte above 16 MiB", executable(f, more=bytes(ELF_LIMIT - least + 4)), wanted=lambda made: made.status == 7)
     prove("a function of 4,000,000 instructions", executable([("f", function_words(4000000))]))

@@ -30,6 +30,7 @@ use Rattle.c_run.specs.declared.machine.Machine.{Machine}
 use Rattle.c_run.specs.declared.machine.Ended.{Ended}
 use Rattle.c_run.specs.declared.machine.Ended.TheVariants as ended
 use Rattle.c_run.specs.Tasks.{applied, through, paused, reached, Goes}
+use Rattle.c_run.specs.Outcomes.{outcome_at}
 use Rattle.c_run.specs.Machines.{ends, comes_to, comes_by, Ends, Turns, Turned, weight, IsEntered, IsReceived, IsCalled}
 use Rattle.c_run.proofs.Through.{through-More, through-Broke, through-Gave}
 
@@ -228,6 +229,6 @@ module _ (setting : Setting) (function : List ℕ) (arguments : List ℤ) (memor
   unfolding c_run
   run_back e v done is = sym (of_copy ∙ subst (λ x. Ends (called setting function arguments start turns) after (Ok x)) is done)
 
-  pub run_broke : (e : Refusal Stop) (guard : Guard) (offset : ℕ) → Ends (called setting function arguments start turns) after (Err e) → e ≡ Fault (stop.Broke guard offset) → spec.Broke guard offset ≡ c_run setting function arguments memory turns
+  pub run_broke : (e : Refusal Stop) (s : Stop) → Ends (called setting function arguments start turns) after (Err e) → e ≡ Fault s → outcome_at s ≡ c_run setting function arguments memory turns
   unfolding c_run
-  run_broke e guard offset done is = sym (of_copy ∙ subst (λ x. Ends (called setting function arguments start turns) after (Err x)) is done)
+  run_broke e (stop.Broke guard offset) done is = sym (of_copy ∙ subst (λ x. Ends (called setting function arguments start turns) after (Err x)) is done)

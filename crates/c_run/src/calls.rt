@@ -4,7 +4,7 @@ ghost use Rattle.std.specs.Prelude.{◌≡◌, ◌<◌, IfOk};
 ghost use Rattle.c_run_spec.specs.Calls as spec;
 ghost use Rattle.c_run_value.specs.Settings.{setting_in, setting_of};
 ghost use Rattle.c_run.specs.Machines.{Ends};
-ghost use Rattle.c_run.specs.Outcomes.{outcome_in};
+ghost use Rattle.c_run.specs.Outcomes.{outcome_at, outcome_in};
 
 use crate::machine::{Ended, Machine, body_named, drive, enter};
 use attempt::{Refusal, attempt};
@@ -36,6 +36,15 @@ pub enum Outcome {
     Guard(Guard, usize),
     /// It returned this value, unless the function is `void`, and left this memory.
     Back(Option<i128>, Memory),
+}
+
+/// The outcome of a run that stops short.
+fn broken(stop: Stop) -> Outcome
+    ensures { outcome_in result ≡ outcome_at stop }
+{
+    match stop {
+        Stop::Broke(guard, offset) => Outcome::Guard(guard, offset),
+    }
 }
 
 /// How the call of a function with a body ends, with the turns that are left once it is called.
@@ -92,8 +101,8 @@ pub fn run<'s, 'a>(
             Ended::More => Ok(Outcome::More),
             Ended::Back(value) => Ok(Outcome::Back(value, after)),
         },
-        Err(stop) => match stop {
-            Refusal::Fault(Stop::Broke(guard, offset)) => Ok(Outcome::Guard(guard, offset)),
+        Err(refusal) => match refusal {
+            Refusal::Fault(stop) => Ok(broken(stop)),
             Refusal::NoMemory => Err(AllocError),
         },
     }

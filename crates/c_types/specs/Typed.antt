@@ -20,7 +20,8 @@ use Rattle.c_types.specs.declared.typed.Counts.{Counts}
 use Rattle.c_types.specs.declared.typed.Typed.{Typed}
 use Rattle.attempt.specs.declared.refusal.Refusal.{Refusal}
 use Rattle.attempt.specs.declared.refusal.Refusal.TheVariants as refusal
-use Rattle.c_types_core.specs.declared.fault.TypeFault.{TypeFault}
+pub use Rattle.c_types_core.specs.declared.fault.TypeFault.{TypeFault}
+pub use Rattle.c_types_core.specs.declared.fault.TypeFault.TheVariants.{At}
 use Rattle.c_types_core.specs.declared.fault.TypeFault.TheVariants as error
 
 abbrev pub function_type_of : FunctionType → core.FunctionType

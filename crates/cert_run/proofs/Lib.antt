@@ -4,11 +4,9 @@ mod Searching
 mod Certified
 mod Files
 mod Numbered
-mod Coded
 mod Placing
 mod Named
 mod Ready
-mod Sound
 mod Listing
 mod Whole
 mod Listed

@@ -14,13 +14,16 @@ use Rattle.pair_setup_spec.specs.Outcome as outcome
 use Rattle.pair_setup_spec.specs.Outcome.{IsPaired, Pairs}
 use Rattle.agreement_laws.specs.EntryFrame.{Pair}
 use Rattle.validity_laws.specs.CheckStatements.{listed_of}
-use Rattle.cert_run_spec.specs.Files.{AreFunctionsOf, AreListed, AreSides, CodeSide, IsSide, firsts_at, no_side, sides_of}
-use Rattle.cert_run.specs.Made.{AreCodeOf, side_with}
+use Rattle.cert_run_spec.specs.Files.{AreFunctionsOf, AreListed, AreSides, CodeSide, firsts_at, no_side, sides_of}
+use Rattle.pair_setup.specs.Graphs.{AreCode, IsCodeBy}
 use Rattle.cert_run.specs.Sides.{function_in, functions_in, numbering_by, pair_with}
 use Rattle.cert_run.proofs.Named.{has_body}
 use Rattle.cert_run.proofs.Whole.{sound_at}
 
 -- ---- graphs with their first nodes
+
+abbrev side_with : Graph → (firsts : List (ℕ × ℕ)) → CodeSide
+side_with graph firsts = record { graph = graph; firsts = firsts }
 
 sides_from : Graphs → (firsts : List (List (ℕ × ℕ))) → List CodeSide
 sides_from [] firsts = []
@@ -44,7 +47,7 @@ firsts_from (graph ∷ graphs) (first ∷ firsts) zero e = refl
 firsts_from (graph ∷ graphs) (first ∷ firsts) (suc n) e = firsts_from graphs firsts n (omega (arith, e))
 
 sides_are : (image : Image) (entries left : List ℕ) (graphs : Graphs) (firsts : List (List (ℕ × ℕ))) → length graphs ≡ length left → length firsts ≡ length left
-    → ((k entry : ℕ) (graph : Graph) → slice_get left k ≡ Some entry → slice_get graphs k ≡ Some graph → IsSide image entries entry (side_with graph (get_or firsts k [])))
+    → ((k entry : ℕ) (graph : Graph) → slice_get left k ≡ Some entry → slice_get graphs k ≡ Some graph → IsCodeBy image entries entry graph (get_or firsts k []))
     → AreSides image entries left (sides_from graphs firsts)
 unfolding AreSides sides_from
 sides_are image entries [] [] firsts a b each = tt
@@ -52,7 +55,7 @@ sides_are image entries [] (graph ∷ graphs) firsts a b each = absurd (omega (a
 sides_are image entries (entry ∷ left) [] firsts a b each = absurd (omega (arith, a))
 sides_are image entries (entry ∷ left) (graph ∷ graphs) [] a b each = absurd (omega (arith, b))
 sides_are image entries (entry ∷ left) (graph ∷ graphs) (first ∷ firsts) a b each = (
-  each 0 entry graph refl refl,
+  (let is = each 0 entry graph refl refl in record { graph_is = is.graph_is; firsts_are = is.firsts_are }),
   sides_are image entries left graphs firsts (omega (arith, a)) (omega (arith, b)) (λ k. each (suc k)),
 )
 
@@ -82,7 +85,7 @@ functions_are image unit (f ∷ functions) sound =
     )
 
 module _ (image : Image) (unit : Typed) (list : List (List ℕ)) (pairs : Pairs) (paired : IsPaired image unit list pairs)
-    (runs : List Run) (graphs : Graphs) (are_runs : AreRuns image runs) (code : AreCodeOf image pairs.entries (length pairs.entries) graphs) where
+    (runs : List Run) (graphs : Graphs) (are_runs : AreRuns image runs) (code : AreCode image pairs.entries graphs) where
   pub are_listed : AreListed image unit pairs (map (listed_of (pair_with image unit (numbering_by pairs.entries runs code.firsts) graphs)) (functions_in unit pairs))
   are_listed = record {
     runs = runs;

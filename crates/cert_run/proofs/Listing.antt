@@ -20,7 +20,7 @@ use Rattle.cert_check_frames.specs.declared.entries.Entry.{Entry}
 use Rattle.cert_check_frames.specs.declared.entries.File.{File}
 use Rattle.cert_run.specs.Entries.{AreEntriesFor, IsEntryFor, sides_with}
 use Rattle.cert_run.specs.Sides.{function_in}
-use Rattle.cert_run.proofs.Coded.{read_before, read_last}
+use Rattle.pair_setup.proofs.Seams.{read_before, read_last}
 use Rattle.cert_run.proofs.Ready.{functions_at, functions_long}
 
 module _ (unit : Typed) (entries : List ℕ) (file : File) (list : List (List ℕ)) (functions : List code.Function) where

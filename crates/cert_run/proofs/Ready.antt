@@ -72,32 +72,3 @@ module _ (image : Image) (unit : Typed) (list : List (List ℕ)) (pairs : Pairs)
           (paired.functions_are k (with_name name f) within) in
           let few = is.within in
           omega (arith, few)
-
--- ---- entries are those of functions
-
-reached_sized : (image : Image) (entry other : ℕ) → IsSome (size_at image entry) → Reaches image entry other → IsSome (size_at image other)
-reached_sized image entry _ some itself = some
-reached_sized image entry other some (further middle size _ reached size_is calls) = at calls
-  where
-    at : CallsOn image middle size other → IsSome (size_at image other)
-    at (call address _ reachable flow is) = is
-    at (tail address _ reachable flow out is) = is
-
-some_size : (o : Option ℕ) (size : ℕ) → o ≡ Some size → IsSome o
-some_size o size e = subst (λ (x : Option ℕ). IsSome x) (sym e) refl
-
--- a listed function is one of the pairs
-pub listed_size : (image : Image) (unit : Typed) (list : List (List ℕ)) (pairs : outcome.Pairs) → IsPaired image unit list pairs → (entry : ℕ) → IsReached image list entry
-    → IsSome (size_at image entry)
-listed_size image unit list pairs paired entry is =
-    let among : Contains (map (λ (f : outcome.Function). f.name) pairs.functions) is.listed =
-    subst (λ (l : List (List ℕ)). Contains l is.listed) (sym paired.listed) is.is_listed in
-    let from = mapped_from (λ (f : outcome.Function). f.name) pairs.functions is.listed among in
-    let f : outcome.Function = from.0 in
-    let function : outcome.IsFunction image unit f =
-    subst (outcome.IsFunction image unit) from.1.2 (paired.functions_are from.1.0 f from.1.1) in
-    let same : f.entry ≡ is.from = same_one f.entry is.from (sym function.entry_is ∙ ap (function_named image) (sym from.2) ∙ is.from_is) in
-    reached_sized image is.from entry (subst (λ (e : ℕ). IsSome (size_at image e)) same (some_size (size_at image f.entry) f.size function.size_is)) is.reached
-  where
-    same_one : (one other : ℕ) → One one ≡ One other → one ≡ other
-    same_one one other e = cc

@@ -4,6 +4,8 @@ use Rattle.std.proofs.lemmas.Option.{slice_get_within, get_or_from_slice_get}
 use Rattle.elf_read_spec.specs.Image.{Image}
 use Rattle.c_types_spec.specs.Core.{Typed}
 use Rattle.pair_setup_spec.specs.Outcome.{Pairs}
+use Rattle.pair_setup.specs.Answers.{pairs_of}
+use Rattle.pair_setup.specs.declared.outcome.Pairs as code
 use Rattle.cert_check_spec.specs.Verdict.{Listed}
 use Rattle.validity_laws.specs.CheckStatements.{listed_of}
 use Rattle.cert_run_spec.specs.Laws.{AreOfFiles, FilesHaveWords, LoggedLeavesAreValid, ProofsAreValid}
@@ -20,8 +22,11 @@ use Rattle.cert_run.specs.Runs.{Answers, CanRun, Finds, IsOutcomeBy, SearchesSid
 use Rattle.cert_run.specs.declared.finding.Search.{Search}
 use Rattle.cert_run.specs.declared.outcome.Outcome.{Outcome}
 
-module _ (image : Image) (unit : Typed) (list : List (List ℕ)) (pairs : Pairs) (can : CanRun image unit list pairs) (s : Sides) (has : HasSides image unit pairs s)
-    (words : FilesHaveWords) where
+module _ (image : Image) (unit : Typed) (list : List (List ℕ)) (made : code.Pairs) (can : CanRun image unit list made) (s : Sides)
+    (has : HasSides image unit (pairs_of list made) s) (words : FilesHaveWords) where
+  abbrev pairs : Pairs
+  pairs = pairs_of list made
+
   abbrev listed : List Listed
   listed = map (listed_of has.pair) (functions_in unit pairs)
 
@@ -30,7 +35,7 @@ module _ (image : Image) (unit : Typed) (list : List (List ℕ)) (pairs : Pairs)
     words = words can.read.file image can.read.are_bytes can.read.image_is;
     typed = can.typed;
     sizes = can.sizes;
-    paired = can.paired;
+    paired = can.pairs_are.paired;
     are = has.listed;
   }
 

@@ -28,7 +28,7 @@ use Rattle.agreement_laws.specs.EntryFrame.{Pair}
 use Rattle.pair_setup_spec.proofs.Stacks.{one_stack}
 use Rattle.validity_laws.specs.Derivation.{AreSides, Function, IsFunction}
 use Rattle.validity_laws.specs.CheckStatements.{AreFunctions, IsFile}
-use Rattle.cert_run.specs.Made.{AreCodeOf}
+use Rattle.pair_setup.specs.Graphs.{AreCode}
 use Rattle.cert_run.specs.Sides.{AreSidesOf, IsRead, function_in, functions_in, numbering_by, pair_with}
 use Rattle.cert_run.proofs.Files.{object_small, pointer_small, runs_below}
 use Rattle.cert_run.proofs.Named.{HasBody, all_under, has_body, mapped_from, mapped_to, same_function}
@@ -75,7 +75,7 @@ module _ (image : Image) (unit : Typed) (list : List (List ℕ)) (pairs : Pairs)
       at (Some body) e = subst (λ (o : Option Body). IsSome o) (sym e) refl
 
   module _ (runs : List Run) (graphs : Graphs) (typed : IsTypedUnit unit) (sizes : UnitSizes unit) (read : IsRead image) (are_runs : AreRuns image runs)
-      (code : AreCodeOf image pairs.entries (length pairs.entries) graphs) where
+      (code : AreCode image pairs.entries graphs) where
     abbrev numbering : Numbering
     numbering = numbering_by pairs.entries runs code.firsts
 

@@ -2,7 +2,7 @@
 use Rattle.std.specs.Prelude.{ℕ, List, Err}
 use Rattle.cert_text_spec.specs.Certificates.{IsCertificate}
 use Rattle.cert_text.specs.declared.certificates.Cert.{Cert}
-use Rattle.attempt.specs.declared.refusal.Refusal.{Refusal}
+use Rattle.attempt.specs.declared.refusal.Refusal.TheVariants.{Fault}
 use Rattle.cert_text.specs.declared.certificates.ReadFault.{ReadFault}
 use Rattle.cert_check.specs.declared.fault.CheckFault.{CheckFault}
 use Rattle.cert_text.specs.Certificates.{certificate_of, IsRead}
@@ -30,11 +30,11 @@ abbrev pub IsOutcomeOn : List Listed → Cert → Outcome → Type 0
 IsOutcomeOn codes cert o = (bytes : List ℕ) → IsCertificate bytes (certificate_of cert) → IsOutcomeOf codes bytes o
 
 -- where the check of a certificate has this fault
-abbrev pub IsFaultOf : List Listed → Cert → Refusal CheckFault → Outcome → Type 0
+abbrev pub IsFaultOf : List Listed → Cert → CheckFault → Outcome → Type 0
 IsFaultOf codes cert fault o =
-    (bytes : List ℕ) → IsCertificate bytes (certificate_of cert) → (listed : List spec.Listed) → AreListed codes listed → IsVerdictOf codes cert listed (Err fault)
+    (bytes : List ℕ) → IsCertificate bytes (certificate_of cert) → (listed : List spec.Listed) → AreListed codes listed → IsVerdictOf codes cert listed (Err (Fault fault))
     → IsOutcome listed bytes (outcome_of o)
 
--- where reading has this error
-abbrev pub IsUnreadOf : Refusal ReadFault → Outcome → Type 0
-IsUnreadOf error o = (bytes : List ℕ) → IsRead bytes (Err error) → (listed : List spec.Listed) → IsOutcome listed bytes (outcome_of o)
+-- where reading has this fault
+abbrev pub IsUnreadOf : ReadFault → Outcome → Type 0
+IsUnreadOf fault o = (bytes : List ℕ) → IsRead bytes (Err (Fault fault)) → (listed : List spec.Listed) → IsOutcome listed bytes (outcome_of o)

@@ -4,7 +4,9 @@ use Rattle.elf_read_spec.specs.Image.{Image}
 use Rattle.c_types_spec.specs.Core.{Typed}
 use Rattle.c_types_spec.specs.HasType.{IsTypedUnit}
 use Rattle.c_graph_spec.specs.Sizes.{UnitSizes}
-use Rattle.pair_setup_spec.specs.Outcome.{IsPaired, Pairs}
+use Rattle.pair_setup_spec.specs.Outcome.{Pairs}
+use Rattle.pair_setup.specs.Answers.{ArePairs}
+use Rattle.pair_setup.specs.declared.outcome.Pairs as code
 use Rattle.validity_spec.specs.Claim.{IsValid}
 use Rattle.agreement_laws.specs.EntryFrame.{Pair}
 use Rattle.validity_laws.specs.Derivation.{Function}
@@ -28,7 +30,7 @@ use Rattle.cert_run.specs.declared.outcome.Outcome.TheVariants.{Proof}
 -- whatever the functions are of which these are the sides
 abbrev pub OfSides : Sides → (List Listed → Type 0) → Type 0
 OfSides s P =
-    (q : Pair) (functions : List Function) → AreEntries q functions s.entries.items → AreGraphs q s.code.items s.source.items s.runs.items → P (map (listed_of q) functions)
+    (q : Pair) (functions : List Function) → AreEntries q functions s.entries.items → AreGraphs q s.code.now s.source.items s.runs.items → P (map (listed_of q) functions)
 
 abbrev pub IsOutcomeBy : Sides → (bytes : List ℕ) → Outcome → Type 0
 IsOutcomeBy s bytes o = OfSides s (λ listed. IsOutcome listed bytes (outcome_of o))
@@ -41,11 +43,11 @@ SearchesSides s search =
 -- ---- of a list with pairs
 
 -- the image is that of a file of bytes, the unit is typed, and the list has these pairs
-pub record CanRun (image : Image) (unit : Typed) (list : List (List ℕ)) (pairs : Pairs) : Type 0 where
+pub record CanRun (image : Image) (unit : Typed) (list : List (List ℕ)) (pairs : code.Pairs) : Type 0 where
   pub read : IsRead image
   pub typed : IsTypedUnit unit
   pub sizes : UnitSizes unit
-  pub paired : IsPaired image unit list pairs
+  pub pairs_are : ArePairs image unit list pairs
 
 -- the listed functions of the pairs, the verdict on the certificate, and that a proof gives validity
 pub record Answers (image : Image) (unit : Typed) (pairs : Pairs) (certificate : List ℕ) (o : Outcome) : Type 0 where

@@ -69,7 +69,7 @@ pub record AreSidesOf (image : Image) (unit : Typed) (pairs : Pairs) (q : Pair) 
 pub record HasSides (image : Image) (unit : Typed) (pairs : Pairs) (s : Sides) : Type 0 where
   pub pair : Pair
   pub are : AreSidesOf image unit pairs pair
-  pub graphs : AreGraphs pair s.code.items s.source.items s.runs.items
+  pub graphs : AreGraphs pair s.code.now s.source.items s.runs.items
   pub entries : AreEntries pair (functions_in unit pairs) s.entries.items
   pub listed : AreListed image unit pairs (map (listed_of pair) (functions_in unit pairs))
 

@@ -10,7 +10,6 @@
 //! ([`checked_pairs_are_valid`]). Of which two sides they are is defined in `specs/Sides.antt`.
 #![tactic(auto)]
 
-mod code;
 mod finding;
 mod functions;
 mod globals;

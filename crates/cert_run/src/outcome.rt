@@ -53,23 +53,20 @@ fn faulty(
     alloc: Global,
     listed: &[Listed<'_>],
     cert: &Cert,
-    fault: Refusal<CheckFault>,
+    fault: CheckFault,
 ) -> Result<Outcome, AllocError>
     ensures { IfOk result (IsFaultOf listed.now cert.now fault) }
 {
     match fault {
-        Refusal::Fault(
-            CheckFault::NotProof {
-                function,
-                offset,
-                rule,
-            },
-        ) => match name(listed, cert, function) {
+        CheckFault::NotProof {
+            function,
+            offset,
+            rule,
+        } => match name(listed, cert, function) {
             Some(name) => broken(alloc, name, offset, rule),
             None => broken(alloc, b"", offset, rule),
         },
-        Refusal::Fault(CheckFault::Limit { quantity }) => Ok(Outcome::Above(quantity)),
-        Refusal::NoMemory => Err(AllocError),
+        CheckFault::Limit { quantity } => Ok(Outcome::Above(quantity)),
     }
 }
 
@@ -80,17 +77,17 @@ fn checked(alloc: Global, listed: &[Listed<'_>], cert: &Cert) -> Result<Outcome,
 {
     match check(alloc, listed, cert) {
         Ok(()) => Ok(Outcome::Proof),
-        Err(fault) => faulty(alloc, listed, cert, fault),
+        Err(Refusal::Fault(fault)) => faulty(alloc, listed, cert, fault),
+        Err(Refusal::NoMemory) => Err(AllocError),
     }
 }
 
 // The verdict on bytes that were not read.
-fn refused(error: Refusal<ReadFault>) -> Result<Outcome, AllocError>
-    ensures { IfOk result (IsUnreadOf error) }
+fn refused(fault: ReadFault) -> Outcome
+    ensures { IsUnreadOf fault result }
 {
-    match error {
-        Refusal::Fault(ReadFault::Refused(offset)) => Ok(Outcome::Unread(offset)),
-        Refusal::NoMemory => Err(AllocError),
+    match fault {
+        ReadFault::Refused(offset) => Outcome::Unread(offset),
     }
 }
 
@@ -104,6 +101,7 @@ pub(crate) fn verdict(
 {
     match read(alloc, bytes) {
         Ok(cert) => checked(alloc, listed, &cert),
-        Err(error) => refused(error),
+        Err(Refusal::Fault(fault)) => Ok(refused(fault)),
+        Err(Refusal::NoMemory) => Err(AllocError),
     }
 }

@@ -44,8 +44,7 @@ pub fn check(
     pairs: &Pairs,
     certificate: &[u8],
 ) -> Result<Outcome, AllocError>
-    requires { CanRun image.now (typed_of unit.now) (texts_of list.now)
-        (pairs_of (texts_of list.now) pairs.now) }
+    requires { CanRun image.now (typed_of unit.now) (texts_of list.now) pairs.now }
     ensures { IfOk result (Answers image.now (typed_of unit.now)
         (pairs_of (texts_of list.now) pairs.now) certificate.now) }
 {
@@ -84,8 +83,7 @@ pub fn prove<N: Notes>(
     pairs: &Pairs,
     notes: &mut N,
 ) -> Result<Search, AllocError>
-    requires { CanRun image.now (typed_of unit.now) (texts_of list.now)
-        (pairs_of (texts_of list.now) pairs.now) }
+    requires { CanRun image.now (typed_of unit.now) (texts_of list.now) pairs.now }
     ensures { IfOk result (Finds image.now (typed_of unit.now)
         (pairs_of (texts_of list.now) pairs.now)) }
 {

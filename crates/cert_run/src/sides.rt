@@ -5,8 +5,7 @@ ghost use Rattle.c_graph_spec.specs.Sizes.{UnitSizes};
 ghost use Rattle.c_types_spec.specs.HasType.{IsTypedUnit};
 ghost use Rattle.c_types.specs.Typed.{typed_of};
 ghost use Rattle.pair_setup_calls.specs.Names.{texts_of};
-ghost use Rattle.pair_setup_spec.specs.Outcome.{IsPaired};
-ghost use Rattle.pair_setup.specs.Answers.{pairs_of};
+ghost use Rattle.pair_setup.specs.Answers.{ArePairs, pairs_of};
 ghost use Rattle.agreement_laws.specs.EntryFrame.{Pair};
 ghost use Rattle.validity_laws.specs.Derivation.{Function};
 ghost use Rattle.validity_laws.specs.CheckStatements.{listed_of};
@@ -14,7 +13,6 @@ ghost use Rattle.cert_check_frames.specs.Listed.{AreListed};
 ghost use Rattle.cert_check_frames.specs.Entries.{AreConventions, AreEntries, AreGraphs};
 ghost use Rattle.cert_run.specs.Sides.{HasSides, IsRead};
 
-use crate::code::code_graphs;
 use crate::functions::entries;
 use crate::source::source_graphs;
 use attempt::attempt;
@@ -31,7 +29,7 @@ use std::alloc::{AllocError, Global};
 #[derive(Drop)]
 pub struct Sides<'a> {
     /// The graphs of the code of all functions that are reached, in the order of their entries.
-    pub code: Vec<Graph>,
+    pub code: &'a [Graph],
     /// The graphs of all bodies, in the unit's order.
     pub source: Vec<Graph>,
     /// The runs of fixed bytes.
@@ -65,23 +63,22 @@ impl<'a> Sides<'a> {
         image: &Image<'_>,
         unit: &Typed<'_>,
         list: &[&'a [u8]],
-        pairs: &Pairs,
+        pairs: &'a Pairs,
     ) -> Result<Self, AllocError>
         requires typed { IsTypedUnit (typed_of unit.now) }
         requires sizes { UnitSizes (typed_of unit.now) }
-        requires paired { IsPaired image.now (typed_of unit.now) (texts_of list.now)
-            (pairs_of (texts_of list.now) pairs.now) }
+        requires paired { ArePairs image.now (typed_of unit.now) (texts_of list.now) pairs.now }
         ensures { IsRead image.now → IfOk result (HasSides image.now (typed_of unit.now)
             (pairs_of (texts_of list.now) pairs.now)) }
     {
         let runs = attempt!(image.runs(alloc));
-        let code = attempt!(code_graphs(alloc, image, pairs.entries.as_slice()));
         let source = attempt!(source_graphs(alloc, image, unit, runs.as_slice()));
         let file = File {
             pointer: image.global_pointer(),
             runs: runs.as_slice(),
         };
         let entries = attempt!(entries(alloc, unit, file, list, pairs));
+        let code = pairs.code.as_slice();
         Ok(Sides {
             code,
             source,
@@ -113,17 +110,16 @@ impl<'a> Sides<'a> {
         ensures { (q : Pair) (functions : List Function)
             → AreEntries q functions self.now.entries.items
             → AreConventions q functions conventions.now
-            → AreGraphs q self.now.code.items self.now.source.items self.now.runs.items
+            → AreGraphs q self.now.code.now self.now.source.items self.now.runs.items
             → IfOk result (λ all. AreListed all.items (map (listed_of q) functions)) }
     {
-        let code = self.code.as_slice();
         let source = self.source.as_slice();
         let runs = self.runs.as_slice();
         list(
             alloc,
             self.entries.as_slice(),
             conventions,
-            code,
+            self.code,
             source,
             runs,
         )

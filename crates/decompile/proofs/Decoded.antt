@@ -1,5 +1,5 @@
 -- The instructions of a function from its words.
-use Rattle.std.proofs.Common.{◌≡◌, ◌∙◌, ℕ, zero, suc, ◌+◌, ◌^◌, ◌<◌, ◌≤◌, refl, sym, ap, subst, arith, List, [], ◌∷◌, ◌++◌, length, map, take, get_or, Option, Some, None}
+use Rattle.std.proofs.Common.{◌≡◌, ◌∙◌, true, false, ℕ, zero, suc, ◌+◌, ◌^◌, ◌<◌, ◌≤◌, refl, sym, ap, subst, arith, List, [], ◌∷◌, ◌++◌, length, map, take, get_or, Option, Some, None}
 use Rattle.std.specs.Prelude.{Contains, IsSome, option_and_then, option_map}
 use Rattle.std.specs.List.{AllZip}
 use Rattle.std.specs.List.Sorted.{IsStrictlyIncreasing}
@@ -95,7 +95,7 @@ module _ (image : Image) (entry : ℕ) where
 
 -- what is seen of an answer is there, so the answer is
 pub known_flow : {A B : Type 0} (f : A → B) (o : Option A) (seen : Option B) → option_map f o ≡ seen → IsSome seen → IsSome o
-known_flow f None seen e some = let none : IsSome None = subst IsSome (sym e) some in absurd cc
+known_flow f None seen e some = let none : false ≡ true = subst IsSome (sym e) some in absurd cc
 known_flow f (Some x) seen e some = refl
 
 module _ (image : Image) (entry : ℕ) (words : List (ℕ × ℕ)) (is : IsCode image entry words) where

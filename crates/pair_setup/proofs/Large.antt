@@ -1,5 +1,5 @@
 -- Graphs that are too large, by entries and by numbers.
-use Rattle.std.proofs.Common.{◌≡◌, ◌∙◌, ◌<◌, ◌≤◌, ℕ, suc, List, [], length, get_or, sym, ap, subst, arith}
+use Rattle.std.proofs.Common.{◌≡◌, ◌∙◌, ◌<◌, ◌≤◌, ℕ, suc, List, [], Bool, true, false, length, get_or, sym, ap, subst, inl, arith}
 use Rattle.std.specs.Prelude.{◌↔◌, nat_le, IsTrue, Some, None, IsSome, slice_get}
 use Rattle.std.proofs.lemmas.Bool.{le-leb, leb-true}
 use Rattle.std.proofs.lemmas.List.Elements.{Contains-get_or}
@@ -20,6 +20,7 @@ use Rattle.pair_setup_spec.specs.SourceReach.{body_of}
 use Rattle.tv_limits.specs.declared.TheConstants.{MAX_NODES}
 use Rattle.pair_setup_spec.specs.Nodes.{IsLargeCode}
 use Rattle.pair_setup.specs.Sizes.{AnyLargeCode, AnyLargeSource, IsLargeAt}
+use Rattle.pair_setup.specs.Graphs.{AreCodeIf, AreSmallIf}
 use Rattle.call_graph.proofs.Cycles.{NoneBelow, none-all}
 use Rattle.pair_setup.proofs.Added.{some-of}
 use Rattle.c_graph_laws.proofs.Lengths.{graph_long}
@@ -106,3 +107,10 @@ any-source unit names numbers i below large = record { number = get_or numbers i
 
 pub no-source : (unit : Typed) (names : List (List ℕ)) (numbers : List ℕ) (i : ℕ) → i ≡ length numbers → NoneBelow (IsLargeAt unit names) numbers i → AnyLargeSource unit names numbers → ⊥
 no-source unit names numbers i all none any = none-all (IsLargeAt unit names) numbers i all none any.number any.among any.large
+
+-- ---- both
+
+pub with-source : (image : Image) (unit : Typed) (names : List (List ℕ)) (numbers entries : List ℕ) (graphs : List Graph) → (AnyLargeSource unit names numbers → ⊥)
+    → (small : Bool) → AreCodeIf image entries graphs small → AreSmallIf image unit names numbers entries graphs small
+with-source image unit names numbers entries graphs none true is = (is.0, is.1, none)
+with-source image unit names numbers entries graphs none false is = inl is

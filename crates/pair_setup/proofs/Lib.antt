@@ -17,3 +17,6 @@ mod Large
 mod Prefixes
 mod Rising
 mod Outcomes
+mod Sound
+pub mod Seams
+mod Coded

@@ -18,6 +18,7 @@ use Rattle.pair_setup_spec.specs.Code.{IsSoundCode}
 use Rattle.pair_setup_spec.specs.Nodes.{HasLargeGraph, in_code, in_source}
 use Rattle.pair_setup_spec.specs.Outcome as spec
 use Rattle.pair_setup_spec.specs.Outcome.{nothing_listed, of_names, of_reach, HasNoFault, IsReached, IsPaired, IsFunction}
+use Rattle.graph_core_spec.specs.Graph.{Graph}
 use Rattle.pair_setup.specs.Codes.{AreCoded, IsFirstCodeError}
 use Rattle.pair_setup.specs.Names.{ArePassed}
 use Rattle.pair_setup.specs.Depths.{AreFunctions, IsSoundFunction, IsFirstDepthError}
@@ -101,11 +102,6 @@ module _ (image : Image) (unit : Typed) (names list : List (List ℕ)) where
   functions-named (name ∷ some) (f ∷ functions) long = ap (λ l. name ∷ l) (functions-named some functions (omega (arith, long)))
 
   module _ (functions : List Function) (numbers entries : List ℕ) (c : AreChecked image unit names list functions numbers entries) where
-    pub entries-sized : All (λ (entry : ℕ). IsSome (size_at image entry)) entries
-    entries-sized =
-        All-from_get_or (λ (entry : ℕ). IsSome (size_at image entry)) entries 0
-        (λ i below. entry-sized image list (get_or entries i 0) ((c.entries_are (get_or entries i 0)).0 (Contains-get_or entries i 0 below)))
-
     no-faults : (d : Function) → All (HasNoFault image unit) list
     no-faults d =
         All-from_get_or (HasNoFault image unit) list [] (λ i below. record {
@@ -128,9 +124,9 @@ module _ (image : Image) (unit : Typed) (names list : List (List ℕ)) where
         inr (let number = c.numbers_are.all listed other among reaches in
         record { number = number.0; among = number.2; large = record { name = other; number_is = number.1; large = large } })
 
-    pub are-paired : (found : List ℕ) (pairs : Pairs) → list ≢ [] → AreSmall image unit names numbers entries found → pairs.functions.items ≡ functions → pairs.entries.items ≡ found
-        → IsPaired image unit list (pairs_of list pairs)
-    are-paired found pairs some small functions_are found_are = record {
+    pub are-paired : (found : List ℕ) (graphs : List Graph) (pairs : Pairs) → list ≢ [] → AreSmall image unit names numbers entries found graphs → pairs.functions.items ≡ functions
+        → pairs.entries.items ≡ found → IsPaired image unit list (pairs_of list pairs)
+    are-paired found graphs pairs some small functions_are found_are = record {
       some = some;
       no_fault = no-faults nothing;
       no_large = All-from_get_or (λ (listed : List ℕ). HasLargeGraph image unit listed → ⊥) list [] (λ i below large. none (large-code (get_or list i []) (Contains-get_or list i [] below) large));

@@ -7,4 +7,5 @@ pub mod Calling
 pub mod Stacks
 pub mod Depths
 pub mod Sizes
+pub mod Graphs
 pub mod Answers

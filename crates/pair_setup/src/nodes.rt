@@ -1,13 +1,13 @@
-//! Graphs with more nodes than the limit.
+//! Graphs of code, and graphs with more nodes than the limit.
 
-ghost use Rattle.std.specs.Prelude.{◌↔◌, ◌⊎◌, All, IfErr, IfOk, IsSome, IsTrue, OnOk};
+ghost use Rattle.std.specs.Prelude.{◌≡◌, ◌↔◌, [], All, IfOk, IsTrue, MatchOption};
 ghost use Rattle.std.specs.List.Sorted.{IsStrictlyIncreasing};
-ghost use Rattle.elf_read_spec.specs.Image.{size_at};
-ghost use Rattle.decompile.specs.Errors.{IsGraphError};
+ghost use Rattle.graph_core.specs.Graphs.{graph_of, graphs_of};
 ghost use Rattle.c_types.specs.Typed.{typed_of};
 ghost use Rattle.pair_setup_calls.specs.Names.{names_of};
 ghost use Rattle.pair_setup_spec.specs.Nodes.{IsLargeCode};
-ghost use Rattle.pair_setup.specs.Sizes.{AnyLargeCode, AnyLargeSource, IsLargeAt};
+ghost use Rattle.pair_setup.specs.Graphs.{AreCodeIf, AreSmallIf, IsSmallCode, IsSound};
+ghost use Rattle.pair_setup.specs.Sizes.{AnyLargeSource, IsLargeAt};
 
 use attempt::{Refusal, attempt};
 use c_graph_layout::size;
@@ -15,60 +15,55 @@ use c_types::typed::Typed;
 use decompile::{GraphFault, decompile_within};
 use decompile_laws::validity::code_graphs_have_one_size;
 use elf_read::Image;
+use graph_core::Graph;
 use pair_setup_calls::body_at;
 use std::alloc::{AllocError, Global};
 use tv_limits::MAX_NODES;
 
-/// Nothing, where the graph of the function at an entry has no more nodes than the limit, or else
-/// why there is no such graph.
-fn check_code(
+/// The graph of the function at an entry; none where it has more nodes than the limit. Its code has
+/// no fault, and the functions that it calls are among the entries: there is a graph.
+fn code_graph(
     alloc: Global,
     image: &Image<'_>,
     entry: u32,
     entries: &[u32],
-) -> Result<(), Refusal<GraphFault>>
-    requires sized { IsSome (size_at image.now entry) }
+) -> Result<Option<Graph>, AllocError>
+    requires sound { IsSound image.now entries.now entry }
     requires rising { IsStrictlyIncreasing entries.now }
-    ensures small { OnOk result (IsLargeCode image.now entry → ⊥) }
-    ensures error { IfErr result (IsGraphError image.now entry entries.now MAX_NODES) }
+    ensures { IfOk result (λ found. MatchOption found (IsLargeCode image.now entry)
+        (λ graph. IsSmallCode image.now entries.now entry (graph_of graph))) }
 {
     // a law, of which nothing runs
     code_graphs_have_one_size();
-    attempt!(decompile_within(alloc, image, entry, entries, MAX_NODES));
-    Ok(())
+    match decompile_within(alloc, image, entry, entries, MAX_NODES) {
+        Ok(found) => Ok(Some(found.graph)),
+        Err(Refusal::Fault(GraphFault::Large(_))) => Ok(None),
+        Err(Refusal::Fault(GraphFault::Code(_))) => unreachable!(),
+        Err(Refusal::Fault(GraphFault::Unlisted { .. })) => unreachable!(),
+        Err(Refusal::NoMemory) => Err(AllocError),
+    }
 }
 
-/// Whether the graph of the function at an entry has more nodes than the limit. Its code has no
-/// fault, and the functions that it calls are among the entries: there is a graph.
-fn is_large_code(
+/// Adds the graphs of the functions at some entries, in their order; false where one of them has
+/// more nodes than the limit.
+fn add_code(
     alloc: Global,
+    graphs: &mut Vec<Graph>,
     image: &Image<'_>,
-    entry: u32,
     entries: &[u32],
 ) -> Result<bool, AllocError>
-    requires sized { IsSome (size_at image.now entry) }
+    requires none { graphs.old.items ≡ [] }
+    requires sound { All (IsSound image.now entries.now) entries.now }
     requires rising { IsStrictlyIncreasing entries.now }
-    ensures { IfOk result (λ large. IsTrue large ↔ IsLargeCode image.now entry) }
+    ensures { IfOk result (AreCodeIf image.now entries.now (graphs_of graphs.new.items)) }
 {
-    match check_code(alloc, image, entry, entries) {
-        Ok(()) => Ok(false),
-        Err(Refusal::Fault(GraphFault::Large(_))) => Ok(true),
-        Err(_) => Err(AllocError),
-    }
-}
-
-/// Whether that of one of some functions has.
-fn any_large_code(alloc: Global, image: &Image<'_>, entries: &[u32]) -> Result<bool, AllocError>
-    requires sized { All (λ entry. IsSome (size_at image.now entry)) entries.now }
-    requires rising { IsStrictlyIncreasing entries.now }
-    ensures { IfOk result (λ large. IsTrue large ↔ AnyLargeCode image.now entries.now) }
-{
-    for entry in entries {
-        if attempt!(is_large_code(alloc, image, *entry, entries)) {
-            return Ok(true);
+    for index in 0..entries.len() {
+        match attempt!(code_graph(alloc, image, entries[index], entries)) {
+            Some(graph) => attempt!(graphs.push(graph), AllocError),
+            None => return Ok(false),
         }
     }
-    Ok(false)
+    Ok(true)
 }
 
 /// Whether the graph of the C function of a number has more nodes than the limit.
@@ -98,22 +93,24 @@ fn any_large_source(unit: &Typed<'_>, numbers: &[usize]) -> Result<bool, AllocEr
     Ok(false)
 }
 
-/// Whether one of some functions, by entries, or of some C functions, by numbers, has a graph that
-/// is too large.
-pub(crate) fn is_too_large(
+/// Adds the graphs of the functions at some entries, in their order; false where one of them, or
+/// that of one of some C functions, by numbers, has more nodes than the limit.
+pub(crate) fn add_small(
     alloc: Global,
+    graphs: &mut Vec<Graph>,
     image: &Image<'_>,
     unit: &Typed<'_>,
     numbers: &[usize],
     entries: &[u32],
 ) -> Result<bool, AllocError>
-    requires sized { All (λ entry. IsSome (size_at image.now entry)) entries.now }
+    requires none { graphs.old.items ≡ [] }
+    requires sound { All (IsSound image.now entries.now) entries.now }
     requires rising { IsStrictlyIncreasing entries.now }
-    ensures { IfOk result (λ large. IsTrue large ↔ AnyLargeCode image.now entries.now
-        ⊎ AnyLargeSource (typed_of unit.now) (names_of unit.now) numbers.now) }
+    ensures { IfOk result (AreSmallIf image.now (typed_of unit.now) (names_of unit.now) numbers.now
+        entries.now (graphs_of graphs.new.items)) }
 {
-    if attempt!(any_large_code(alloc, image, entries)) {
-        return Ok(true);
+    if attempt!(any_large_source(unit, numbers)) {
+        return Ok(false);
     }
-    any_large_source(unit, numbers)
+    add_code(alloc, graphs, image, entries)
 }

@@ -1,6 +1,7 @@
 //! What pairing answers.
 
 use code_reach::CodeFault;
+use graph_core::Graph;
 use pair_setup_spec::PairKind;
 
 /// A listed function.
@@ -21,6 +22,8 @@ pub struct Pairs {
     pub functions: Vec<Function>,
     /// The entries of all functions that their code reaches, ascending, each once.
     pub entries: Vec<u32>,
+    /// The graphs of the functions at these entries, in their order.
+    pub code: Vec<Graph>,
 }
 
 /// A name of which a fault speaks.

@@ -1,24 +1,25 @@
 //! The pairs of a list.
 
-ghost use Rattle.std.specs.Prelude.{◌≡◌, ◌≢◌, [], All, IfErr, IfOk, IsSome};
-ghost use Rattle.elf_read_spec.specs.Image.{size_at};
+ghost use Rattle.std.specs.Prelude.{◌≡◌, ◌≢◌, [], All, IfErr, IfOk};
+ghost use Rattle.graph_core.specs.Graphs.{graphs_of};
 ghost use Rattle.c_types_spec.specs.HasType.{IsTypedUnit};
 ghost use Rattle.c_types.specs.Typed.{typed_of};
 ghost use Rattle.pair_setup_calls.specs.Names.{names_of, texts_of};
-ghost use Rattle.pair_setup_spec.specs.Outcome.{IsPaired};
 ghost use Rattle.pair_setup.specs.Surveys.{IsSurvey};
-ghost use Rattle.pair_setup.specs.Answers.{AreChecked, AreSmall, IsLargeError, IsPairError};
-ghost use Rattle.pair_setup.specs.Answers.{pairs_of};
+ghost use Rattle.pair_setup.specs.Graphs.{IsSound};
+ghost use Rattle.pair_setup.specs.Answers.{AreChecked, ArePairs, AreSmall, IsLargeError};
+ghost use Rattle.pair_setup.specs.Answers.{IsPairError};
 
 use crate::code::sound_entries;
 use crate::names::check_names;
-use crate::nodes::is_too_large;
+use crate::nodes::add_small;
 use crate::outcome::{Function, Named, PairFault, Pairs};
 use crate::reach::functions;
 use crate::survey::{Survey, surveyed};
 use attempt::{Refusal, attempt};
 use c_types::typed::Typed;
 use elf_read::Image;
+use graph_core::Graph;
 use indexmap::IndexSet;
 use pair_setup_spec::PairKind;
 use std::alloc::Global;
@@ -48,26 +49,29 @@ fn checked(
     functions(alloc, image, unit, survey, list, firsts.as_slice())
 }
 
-/// The entries, ascending, where no graph of these functions is too large.
+/// The entries, ascending, whose graphs are added, where none of these, and none of these C
+/// functions, is too large.
 fn small_entries(
     alloc: Global,
+    graphs: &mut Vec<Graph>,
     image: &Image<'_>,
     unit: &Typed<'_>,
     numbers: &[usize],
     entries: &mut IndexSet<u32>,
 ) -> Result<Vec<u32>, Refusal<PairFault>>
-    requires { All (λ entry. IsSome (size_at image.now entry)) entries.old.keys }
+    requires none { graphs.old.items ≡ [] }
+    requires sound { All (IsSound image.now entries.old.keys) entries.old.keys }
     ensures small { IfOk result (λ found. AreSmall image.now (typed_of unit.now) (names_of unit.now)
-        numbers.now entries.old.keys found.items) }
+        numbers.now entries.old.keys found.items (graphs_of graphs.new.items)) }
     ensures error { IfErr result (IsLargeError image.now (typed_of unit.now) (names_of unit.now)
         numbers.now entries.old.keys) }
 {
     attempt!(entries.sort(), Refusal::NoMemory);
-    let large = attempt!(
-        is_too_large(alloc, image, unit, numbers, entries.as_slice()),
+    let small = attempt!(
+        add_small(alloc, graphs, image, unit, numbers, entries.as_slice()),
         Refusal::NoMemory
     );
-    if large {
+    if !small {
         return Err(Refusal::Fault(PairFault::Nodes));
     }
     let found = attempt!(
@@ -88,17 +92,21 @@ fn listed_pairs(
     requires typed { IsTypedUnit (typed_of unit.now) }
     requires survey { IsSurvey image.now (typed_of unit.now) (names_of unit.now) survey.now }
     requires some { texts_of list.now ≢ [] }
-    ensures pairs { IfOk result (λ pairs. IsPaired image.now (typed_of unit.now) (texts_of list.now)
-        (pairs_of (texts_of list.now) pairs)) }
+    ensures pairs { IfOk result (ArePairs image.now (typed_of unit.now) (texts_of list.now)) }
     ensures error { IfErr result (IsPairError image.now (typed_of unit.now) (names_of unit.now)
         (texts_of list.now)) }
 {
     let mut seen = IndexSet::new(alloc);
     let mut entries = IndexSet::new(alloc);
     let functions = attempt!(checked(alloc, image, unit, survey, &mut seen, &mut entries, list));
+    let mut code = Vec::new(alloc);
     let numbers = seen.as_slice();
-    let entries = attempt!(small_entries(alloc, image, unit, numbers, &mut entries));
-    Ok(Pairs { functions, entries })
+    let entries = attempt!(small_entries(alloc, &mut code, image, unit, numbers, &mut entries));
+    Ok(Pairs {
+        functions,
+        entries,
+        code,
+    })
 }
 
 /// The pairs of a list of names, or the first of these: that nothing is listed; for the first
@@ -112,8 +120,7 @@ pub fn pair(
     list: &[&[u8]],
 ) -> Result<Pairs, Refusal<PairFault>>
     requires { IsTypedUnit (typed_of unit.now) }
-    ensures pairs { IfOk result (λ pairs. IsPaired image.now (typed_of unit.now) (texts_of list.now)
-        (pairs_of (texts_of list.now) pairs)) }
+    ensures pairs { IfOk result (ArePairs image.now (typed_of unit.now) (texts_of list.now)) }
     ensures error { IfErr result (IsPairError image.now (typed_of unit.now) (names_of unit.now)
         (texts_of list.now)) }
 {

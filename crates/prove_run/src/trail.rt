@@ -3,10 +3,11 @@
 ghost use Rattle.std.specs.Prelude.{IfOk};
 ghost use Rattle.sim_rules_spec.specs.Obligations as rule;
 ghost use Rattle.cert_check_spec.specs.Verdict as spec;
-ghost use Rattle.prove_run_spec.specs.Trails.{IsFound};
+ghost use Rattle.attempt.specs.declared.refusal.Refusal.TheVariants.{Fault};
+ghost use Rattle.prove_run_spec.specs.Trails.{IsFound, IsTrail};
 ghost use Rattle.sim_rules.specs.Outcome.{IsRuleFault};
 ghost use Rattle.prove_run.specs.Goals.{IsLeafFault};
-ghost use Rattle.prove_run.specs.Found.{found_of};
+ghost use Rattle.prove_run.specs.Found.{found_of, trail_of};
 
 use attempt::Refusal;
 use prove_run_spec::Measure;
@@ -41,20 +42,27 @@ pub enum Found {
     Unproved(Trail),
 }
 
-/// The trail of a function of which a Leaf has no obligations, for this reason.
+/// The trail of a function of which a Leaf has no obligations, for this fault.
+fn reason(fault: RuleFault) -> Trail
+    requires { IsLeafFault (Fault fault) }
+    ensures { (f : spec.Listed) → IsRuleFault f.opening f.frame MAX_VISITS rule.Leaf (Fault fault)
+        → IsTrail f (trail_of result) }
+{
+    match fault {
+        RuleFault::Cyclic(side, node) => Trail::Later(side, node),
+        RuleFault::Large(side, count) => Trail::Large(Measure::Visits(side), count),
+        RuleFault::Sort(_) => unreachable!(),
+    }
+}
+
+/// What is found of a function of which a Leaf has no obligations.
 pub(crate) fn why(refusal: Refusal<RuleFault>) -> Result<Found, AllocError>
     requires { IsLeafFault refusal }
     ensures { (f : spec.Listed) → IsRuleFault f.opening f.frame MAX_VISITS rule.Leaf refusal
         → IfOk result (λ found. IsFound f (found_of found)) }
 {
     match refusal {
-        Refusal::Fault(RuleFault::Cyclic(side, node)) => {
-            Ok(Found::Unproved(Trail::Later(side, node)))
-        }
-        Refusal::Fault(RuleFault::Large(side, count)) => {
-            Ok(Found::Unproved(Trail::Large(Measure::Visits(side), count)))
-        }
-        Refusal::Fault(RuleFault::Sort(_)) => unreachable!(),
+        Refusal::Fault(fault) => Ok(Found::Unproved(reason(fault))),
         Refusal::NoMemory => Err(AllocError),
     }
 }

@@ -4,6 +4,7 @@ ghost use Rattle.attempt.specs.declared.refusal.Refusal.TheVariants.{NoMemory};
 ghost use Rattle.tv_base.specs.Faults.{HasCause};
 ghost use Rattle.tv_base.specs.Reading.{HandsOverFirst, ZeroAtEnd, IsTaken, IsPartlyTaken};
 ghost use Rattle.tv_base.specs.Reading.{with_name};
+ghost use Rattle.tv_base.specs.States.{DeskState};
 
 use crate::OutsideFault;
 use attempt::Refusal;
@@ -14,42 +15,39 @@ const PIECE: usize = 65_536;
 
 /// Files that are read, one at a time. Before any `begin` nothing is left to read.
 pub trait Desk {
-    /// The bytes under each name, where contracts see them. They never change.
-    ghost bytes: { Self → List ℕ → Option (List ℕ) };
-
-    /// What is left of the begun file, where contracts see it.
-    ghost left: { Self → Option (List ℕ) };
-
-    /// The names of the files that were begun, in order, where contracts see them.
-    ghost opened: { Self → Option (List (List ℕ)) };
-
-    /// How many calls failed; it stops at 18446744073709551615.
-    ghost faults: { Self → ℕ };
+    /// What contracts see: the bytes under each name, which never change; what is left of the begun
+    /// file; the names of the files that were begun, in order; and how many calls failed, which
+    /// stops at 18446744073709551615.
+    ghost state: { Self → DeskState };
 
     /// Begins the file of this name, from its first byte. A name without a file is refused.
     fn begin(&mut self, name: &str) -> Result<(), Refusal<OutsideFault>>
-        ensures begins { OnOk result (left self.new ≡ bytes self.old name.now) }
-        ensures opens { OnOk result (opened self.new ≡ with_name (opened self.old) name.now) }
-        ensures same_bytes { bytes self.new ≡ bytes self.old }
-        ensures refused { OnErr result (left self.new ≡ left self.old) }
-        ensures refused_name { OnErr result (opened self.new ≡ opened self.old) }
-        ensures cause { HasCause (faults self.old) (faults self.new) result }
-        ensures unfailing { OnOk result (faults self.new ≡ faults self.old) }
-        ensures no_memory { IsErrOf result NoMemory → faults self.new ≡ faults self.old };
+        ensures begins { OnOk result ((state self.new).left ≡ (state self.old).files name.now) }
+        ensures opens { OnOk result
+            ((state self.new).opened ≡ with_name (state self.old).opened name.now) }
+        ensures same_bytes { (state self.new).files ≡ (state self.old).files }
+        ensures refused { OnErr result ((state self.new).left ≡ (state self.old).left) }
+        ensures refused_name { OnErr result ((state self.new).opened ≡ (state self.old).opened) }
+        ensures cause { HasCause (state self.old).faults (state self.new).faults result }
+        ensures unfailing { OnOk result ((state self.new).faults ≡ (state self.old).faults) }
+        ensures no_memory { IsErrOf result NoMemory → (state self.new).faults
+            ≡ (state self.old).faults };
 
     /// Hands over the next bytes of the begun file, at the front of `buf`, and answers how many;
     /// 0 only where none is left.
     fn read(&mut self, buf: &mut [u8]) -> Result<usize, Refusal<OutsideFault>>
         requires { 0 < length buf.old }
         ensures bound { IfOk result (λ count. count ≤ length buf.old) }
-        ensures hands_over { HandsOverFirst (left self.old) result buf.new (left self.new) }
-        ensures end { ZeroAtEnd (left self.old) result }
-        ensures same_bytes { bytes self.new ≡ bytes self.old }
-        ensures same_names { opened self.new ≡ opened self.old }
-        ensures refused { OnErr result (left self.new ≡ left self.old) }
-        ensures cause { HasCause (faults self.old) (faults self.new) result }
-        ensures unfailing { OnOk result (faults self.new ≡ faults self.old) }
-        ensures no_memory { IsErrOf result NoMemory → faults self.new ≡ faults self.old };
+        ensures hands_over { HandsOverFirst (state self.old).left result buf.new
+            (state self.new).left }
+        ensures end { ZeroAtEnd (state self.old).left result }
+        ensures same_bytes { (state self.new).files ≡ (state self.old).files }
+        ensures same_names { (state self.new).opened ≡ (state self.old).opened }
+        ensures refused { OnErr result ((state self.new).left ≡ (state self.old).left) }
+        ensures cause { HasCause (state self.old).faults (state self.new).faults result }
+        ensures unfailing { OnOk result ((state self.new).faults ≡ (state self.old).faults) }
+        ensures no_memory { IsErrOf result NoMemory → (state self.new).faults
+            ≡ (state self.old).faults };
 }
 
 /// Reads the next piece of the begun file, at most `buf` long, to the end of `bytes`, and answers
@@ -64,15 +62,17 @@ fn read_piece<D: Desk>(
     ensures appends { IfOk result (λ count. bytes.new.items
         ≡ bytes.old.items ++ take count buf.new) }
     ensures grows { IfOk result (λ count. vec_len bytes.new ≡ vec_len bytes.old + count) }
-    ensures hands_over { HandsOverFirst (D.left desk.old) result buf.new (D.left desk.new) }
-    ensures end { ZeroAtEnd (D.left desk.old) result }
-    ensures part { OnErr result (IsPartlyTaken (length buf.old) (D.left desk.old)
-        (D.left desk.new)) }
-    ensures same_bytes { D.bytes desk.new ≡ D.bytes desk.old }
-    ensures same_names { D.opened desk.new ≡ D.opened desk.old }
-    ensures cause { HasCause (D.faults desk.old) (D.faults desk.new) result }
-    ensures unfailing { OnOk result (D.faults desk.new ≡ D.faults desk.old) }
-    ensures no_memory { IsErrOf result NoMemory → D.faults desk.new ≡ D.faults desk.old }
+    ensures hands_over { HandsOverFirst (D.state desk.old).left result buf.new
+        (D.state desk.new).left }
+    ensures end { ZeroAtEnd (D.state desk.old).left result }
+    ensures part { OnErr result (IsPartlyTaken (length buf.old) (D.state desk.old).left
+        (D.state desk.new).left) }
+    ensures same_bytes { (D.state desk.new).files ≡ (D.state desk.old).files }
+    ensures same_names { (D.state desk.new).opened ≡ (D.state desk.old).opened }
+    ensures cause { HasCause (D.state desk.old).faults (D.state desk.new).faults result }
+    ensures unfailing { OnOk result ((D.state desk.new).faults ≡ (D.state desk.old).faults) }
+    ensures no_memory { IsErrOf result NoMemory → (D.state desk.new).faults
+        ≡ (D.state desk.old).faults }
 {
     let count = desk.read(buf)?;
     bytes.extend_from_slice(&buf[..count])?;
@@ -95,14 +95,16 @@ pub fn read_up_to<D: Desk>(
     most: usize,
 ) -> Result<Vec<u8>, Refusal<OutsideFault>>
     ensures bound { IfOk result (λ bytes. vec_len bytes ≤ most) }
-    ensures taken { IfOk result (λ bytes. IsTaken most (D.left desk.old) bytes.items
-        (D.left desk.new)) }
-    ensures part { OnErr result (IsPartlyTaken most (D.left desk.old) (D.left desk.new)) }
-    ensures same_bytes { D.bytes desk.new ≡ D.bytes desk.old }
-    ensures same_names { D.opened desk.new ≡ D.opened desk.old }
-    ensures cause { HasCause (D.faults desk.old) (D.faults desk.new) result }
-    ensures unfailing { OnOk result (D.faults desk.new ≡ D.faults desk.old) }
-    ensures no_memory { IsErrOf result NoMemory → D.faults desk.new ≡ D.faults desk.old }
+    ensures taken { IfOk result (λ bytes. IsTaken most (D.state desk.old).left bytes.items
+        (D.state desk.new).left) }
+    ensures part { OnErr result
+        (IsPartlyTaken most (D.state desk.old).left (D.state desk.new).left) }
+    ensures same_bytes { (D.state desk.new).files ≡ (D.state desk.old).files }
+    ensures same_names { (D.state desk.new).opened ≡ (D.state desk.old).opened }
+    ensures cause { HasCause (D.state desk.old).faults (D.state desk.new).faults result }
+    ensures unfailing { OnOk result ((D.state desk.new).faults ≡ (D.state desk.old).faults) }
+    ensures no_memory { IsErrOf result NoMemory → (D.state desk.new).faults
+        ≡ (D.state desk.old).faults }
 {
     let mut buf = make_buffer(alloc)?;
     let mut bytes = Vec::new(alloc);

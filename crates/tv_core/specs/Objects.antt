@@ -1,24 +1,7 @@
 -- What contracts see of the objects that a run is given, at one moment.
-use Rattle.std.specs.Prelude.{◌≡◌, ◌⊎◌, ℕ, List, Option}
+use Rattle.std.specs.Prelude.{◌≡◌, ◌⊎◌}
 use Rattle.tv_base.specs.Faults.{Rose}
-
--- contents by name, where an object lets contracts see them
-abbrev pub Contents : Type 0
-Contents = List ℕ → Option (List ℕ)
-
--- of a desk: its files, what is left of the file that was begun last, the names that were begun, and how many calls
--- failed
-pub record DeskState : Type 0 where
-  pub files : Contents
-  pub left : Option (List ℕ)
-  pub opened : Option (List (List ℕ))
-  pub faults : ℕ
-
--- of a sink or a store: what it holds by name, the name that is written to, and how many calls failed
-pub record SinkState : Type 0 where
-  pub held : Contents
-  pub begun : List ℕ
-  pub faults : ℕ
+pub use Rattle.tv_base.specs.States.{Contents, DeskState, SinkState}
 
 -- of what is written: the report, and the store of certificates
 pub record Outputs : Type 0 where
@@ -30,12 +13,6 @@ pub record State : Type 0 where
   pub outputs : Outputs
 
 -- ---- by their parts
-
-abbrev pub desk_state : Contents → (left : Option (List ℕ)) → (opened : Option (List (List ℕ))) → (faults : ℕ) → DeskState
-desk_state files left opened faults = record { files = files; left = left; opened = opened; faults = faults }
-
-abbrev pub sink_state : Contents → (begun : List ℕ) → (faults : ℕ) → SinkState
-sink_state held begun faults = record { held = held; begun = begun; faults = faults }
 
 abbrev pub outputs_of : SinkState → SinkState → Outputs
 outputs_of report store = record { report = report; store = store }

@@ -3,7 +3,6 @@ ghost use Rattle.tv_limits.specs.declared.TheConstants.{MAX_ELF_BYTES as ELF_BYT
 ghost use Rattle.tv_words.specs.Jobs.{job_of};
 ghost use Rattle.tv_core.specs.Tasks.{asked_of};
 ghost use Rattle.tv_core.specs.Decisions.{decision_of};
-ghost use Rattle.tv_core.specs.Objects.{desk_state};
 ghost use Rattle.tv_core.specs.Files.{KeepsDesk, AreOf, ReadsFile, JudgesRead, JudgesFiles};
 ghost use Rattle.tv_core.specs.Files.{ReadsAfter, ReadsFiles, ReadsSource};
 
@@ -46,14 +45,8 @@ pub(crate) fn read_file<D: Desk>(
     maximum: usize,
 ) -> Result<Vec<u8>, Refusal<OutsideFault>>
     requires { maximum < 2 ^ 32 }
-    ensures reads { ReadsFile name.now maximum
-        (desk_state (D.bytes desk.old) (D.left desk.old) (D.opened desk.old) (D.faults desk.old))
-        (desk_state (D.bytes desk.new) (D.left desk.new) (D.opened desk.new) (D.faults desk.new))
-        result }
-    ensures kept { KeepsDesk
-        (desk_state (D.bytes desk.old) (D.left desk.old) (D.opened desk.old) (D.faults desk.old))
-        (desk_state (D.bytes desk.new) (D.left desk.new) (D.opened desk.new) (D.faults desk.new))
-        result }
+    ensures reads { ReadsFile name.now maximum (D.state desk.old) (D.state desk.new) result }
+    ensures kept { KeepsDesk (D.state desk.old) (D.state desk.new) result }
 {
     match desk.begin(name) {
         Ok(()) => read_up_to(alloc, desk, maximum + 1),
@@ -70,15 +63,11 @@ fn judge_read<D: Desk, N: Notes>(
     desk: &mut D,
     notes: &mut N,
 ) -> Result<Decision, Refusal<OutsideFault>>
-    ensures judged { IfOk result (λ decision. JudgesRead (D.bytes desk.old) elf.now source.now
+    ensures judged { IfOk result (λ decision. JudgesRead (D.state desk.old).files elf.now source.now
         (job_of job.now) (decision_of decision)) }
-    ensures reads { ReadsAfter elf.now source.now (job_of job.now)
-        (desk_state (D.bytes desk.old) (D.left desk.old) (D.opened desk.old) (D.faults desk.old))
-        (desk_state (D.bytes desk.new) (D.left desk.new) (D.opened desk.new) (D.faults desk.new)) }
-    ensures kept { KeepsDesk
-        (desk_state (D.bytes desk.old) (D.left desk.old) (D.opened desk.old) (D.faults desk.old))
-        (desk_state (D.bytes desk.new) (D.left desk.new) (D.opened desk.new) (D.faults desk.new))
-        result }
+    ensures reads { ReadsAfter elf.now source.now (job_of job.now) (D.state desk.old)
+        (D.state desk.new) }
+    ensures kept { KeepsDesk (D.state desk.old) (D.state desk.new) result }
 {
     if source.len() > MAX_C_BYTES {
         return Ok(plain(alloc, Verdict::TooLarge(Quantity::C)));
@@ -94,17 +83,11 @@ fn judge_with_elf<D: Desk, N: Notes>(
     elf: &[u8],
     notes: &mut N,
 ) -> Result<Decision, Refusal<OutsideFault>>
-    requires { AreOf (D.bytes desk.old) (asked_of (job_of job.now)).elf ELF_BYTES elf.now }
-    ensures judged { IfOk result (λ decision. JudgesFiles (D.bytes desk.old) (job_of job.now)
+    requires { AreOf (D.state desk.old).files (asked_of (job_of job.now)).elf ELF_BYTES elf.now }
+    ensures judged { IfOk result (λ decision. JudgesFiles (D.state desk.old).files (job_of job.now)
         (decision_of decision)) }
-    ensures reads { ReadsSource (job_of job.now) elf.now
-        (desk_state (D.bytes desk.old) (D.left desk.old) (D.opened desk.old) (D.faults desk.old))
-        (desk_state (D.bytes desk.new) (D.left desk.new) (D.opened desk.new)
-        (D.faults desk.new)) }
-    ensures kept { KeepsDesk
-        (desk_state (D.bytes desk.old) (D.left desk.old) (D.opened desk.old) (D.faults desk.old))
-        (desk_state (D.bytes desk.new) (D.left desk.new) (D.opened desk.new) (D.faults desk.new))
-        result }
+    ensures reads { ReadsSource (job_of job.now) elf.now (D.state desk.old) (D.state desk.new) }
+    ensures kept { KeepsDesk (D.state desk.old) (D.state desk.new) result }
 {
     if elf.len() > MAX_ELF_BYTES {
         return Ok(plain(alloc, Verdict::TooLarge(Quantity::Elf)));
@@ -122,16 +105,10 @@ pub(crate) fn judge_files<D: Desk, N: Notes>(
     desk: &mut D,
     notes: &mut N,
 ) -> Result<Decision, Refusal<OutsideFault>>
-    ensures judged { IfOk result (λ decision. JudgesFiles (D.bytes desk.old) (job_of job.now)
+    ensures judged { IfOk result (λ decision. JudgesFiles (D.state desk.old).files (job_of job.now)
         (decision_of decision)) }
-    ensures reads { ReadsFiles (job_of job.now)
-        (desk_state (D.bytes desk.old) (D.left desk.old) (D.opened desk.old) (D.faults desk.old))
-        (desk_state (D.bytes desk.new) (D.left desk.new) (D.opened desk.new)
-        (D.faults desk.new)) }
-    ensures kept { KeepsDesk
-        (desk_state (D.bytes desk.old) (D.left desk.old) (D.opened desk.old) (D.faults desk.old))
-        (desk_state (D.bytes desk.new) (D.left desk.new) (D.opened desk.new) (D.faults desk.new))
-        result }
+    ensures reads { ReadsFiles (job_of job.now) (D.state desk.old) (D.state desk.new) }
+    ensures kept { KeepsDesk (D.state desk.old) (D.state desk.new) result }
 {
     match read_file(alloc, desk, elf_name(job), MAX_ELF_BYTES) {
         Ok(elf) => judge_with_elf(alloc, job, desk, elf.as_slice(), notes),

@@ -15,7 +15,6 @@ ghost use Rattle.cert_run.specs.Sides.{IsRead};
 ghost use Rattle.cert_run.specs.Runs.{CanRun};
 ghost use Rattle.tv_core_spec.specs.Verdicts as spec;
 ghost use Rattle.tv_words.specs.Jobs.{job_of};
-ghost use Rattle.tv_core.specs.Objects.{desk_state};
 ghost use Rattle.tv_core.specs.Files.{AreOf, BeginsFile, KeepsDesk};
 ghost use Rattle.tv_core.specs.Decisions.{decision_of, trails_of};
 ghost use Rattle.tv_core.specs.Listed.{AnswersPaired, IsCertificateDecision};
@@ -139,8 +138,7 @@ fn judge_all<N: Notes>(
     pairs: &Pairs,
     notes: &mut N,
 ) -> Result<Decision, AllocError>
-    requires { CanRun image.now (typed_of unit.now) (texts_of list.now)
-        (pairs_of (texts_of list.now) pairs.now) }
+    requires { CanRun image.now (typed_of unit.now) (texts_of list.now) pairs.now }
     ensures { IfOk result (JudgesAll image.now (typed_of unit.now) (texts_of list.now)
         (pairs_of (texts_of list.now) pairs.now)) }
 {
@@ -204,8 +202,7 @@ fn check_bytes(
     pairs: &Pairs,
     certificate: &[u8],
 ) -> Result<Verdict, AllocError>
-    requires { CanRun image.now (typed_of unit.now) (texts_of list.now)
-        (pairs_of (texts_of list.now) pairs.now) }
+    requires { CanRun image.now (typed_of unit.now) (texts_of list.now) pairs.now }
     ensures { IfOk result (λ verdict. IsCertificateVerdict image.now (typed_of unit.now)
         (pairs_of (texts_of list.now) pairs.now) certificate.now (verdict_of verdict)) }
 {
@@ -226,19 +223,13 @@ fn check_all<D: Desk>(
     name: &str,
     desk: &mut D,
 ) -> Result<Decision, Refusal<OutsideFault>>
-    requires { CanRun image.now (typed_of unit.now) (texts_of list.now)
-        (pairs_of (texts_of list.now) pairs.now) }
-    ensures judged { IfOk result (λ decision. (bytes : List ℕ) × AreOf (D.bytes desk.old) name.now
+    requires { CanRun image.now (typed_of unit.now) (texts_of list.now) pairs.now }
+    ensures judged { IfOk result
+        (λ decision. (bytes : List ℕ) × AreOf (D.state desk.old).files name.now
         CERTIFICATE_BYTES bytes × IsCertificateDecision image.now (typed_of unit.now)
         (pairs_of (texts_of list.now) pairs.now) bytes (decision_of decision)) }
-    ensures begins { BeginsFile name.now CERTIFICATE_BYTES
-        (desk_state (D.bytes desk.old) (D.left desk.old) (D.opened desk.old) (D.faults desk.old))
-        (desk_state (D.bytes desk.new) (D.left desk.new) (D.opened desk.new)
-        (D.faults desk.new)) }
-    ensures kept { KeepsDesk
-        (desk_state (D.bytes desk.old) (D.left desk.old) (D.opened desk.old) (D.faults desk.old))
-        (desk_state (D.bytes desk.new) (D.left desk.new) (D.opened desk.new) (D.faults desk.new))
-        result }
+    ensures begins { BeginsFile name.now CERTIFICATE_BYTES (D.state desk.old) (D.state desk.new) }
+    ensures kept { KeepsDesk (D.state desk.old) (D.state desk.new) result }
 {
     match read_file(alloc, desk, name, MAX_CERTIFICATE_BYTES) {
         Ok(bytes) => plain_from_memory(
@@ -291,14 +282,10 @@ fn judge_paired<D: Desk, N: Notes>(
     desk: &mut D,
     notes: &mut N,
 ) -> Result<Decision, Refusal<OutsideFault>>
-    requires run { CanRun image.now (typed_of unit.now) (texts_of list.now)
-        (pairs_of (texts_of list.now) pairs.now) }
+    requires run { CanRun image.now (typed_of unit.now) (texts_of list.now) pairs.now }
     requires some { 0 < length list.now }
     ensures { AnswersPaired image.now (typed_of unit.now) (job_of job.now) (texts_of list.now)
-        (pairs_of (texts_of list.now) pairs.now)
-        (desk_state (D.bytes desk.old) (D.left desk.old) (D.opened desk.old) (D.faults desk.old))
-        (desk_state (D.bytes desk.new) (D.left desk.new) (D.opened desk.new) (D.faults desk.new))
-        result }
+        (pairs_of (texts_of list.now) pairs.now) (D.state desk.old) (D.state desk.new) result }
 {
     match job {
         Job::Prove(_) => from_memory(judge_all(alloc, image, unit, list, pairs, notes)),
@@ -373,9 +360,7 @@ fn judge_list<D: Desk, N: Notes>(
     requires sizes { UnitSizes (typed_of unit.now) }
     requires few { length (texts_of list.now) ≤ MAX_FUNCTIONS }
     ensures { JudgesList image.now (typed_of unit.now) (job_of job.now) (texts_of list.now)
-        (desk_state (D.bytes desk.old) (D.left desk.old) (D.opened desk.old) (D.faults desk.old))
-        (desk_state (D.bytes desk.new) (D.left desk.new) (D.opened desk.new) (D.faults desk.new))
-        result }
+        (D.state desk.old) (D.state desk.new) result }
 {
     match pair(alloc, image, unit, list) {
         Ok(pairs) => judge_paired(alloc, image, unit, job, list, &pairs, desk, notes),
@@ -407,10 +392,8 @@ pub(crate) fn judge_names<D: Desk, N: Notes>(
     requires read { IsRead image.now }
     requires typed { IsTypedUnit (typed_of unit.now) }
     requires sizes { UnitSizes (typed_of unit.now) }
-    ensures { JudgesList image.now (typed_of unit.now) (job_of job.now) names.now
-        (desk_state (D.bytes desk.old) (D.left desk.old) (D.opened desk.old) (D.faults desk.old))
-        (desk_state (D.bytes desk.new) (D.left desk.new) (D.opened desk.new) (D.faults desk.new))
-        result }
+    ensures { JudgesList image.now (typed_of unit.now) (job_of job.now) names.now (D.state desk.old)
+        (D.state desk.new) result }
 {
     if names.len() > MAX_FUNCTIONS {
         return Ok(plain(alloc, Verdict::TooLarge(Quantity::Functions)));

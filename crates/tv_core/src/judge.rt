@@ -6,7 +6,6 @@ ghost use Rattle.attempt.specs.declared.refusal.Refusal.TheVariants.{NoMemory};
 ghost use Rattle.report_text.specs.Verdicts.{verdict_of};
 ghost use Rattle.tv_words.specs.Jobs.{job_of};
 ghost use Rattle.tv_core.specs.Decisions.{decision_of};
-ghost use Rattle.tv_core.specs.Objects.{desk_state};
 ghost use Rattle.tv_core_spec.specs.Decisions.{plain};
 ghost use Rattle.tv_core_spec.specs.Listing.{Task};
 ghost use Rattle.tv_core_spec.specs.Verdicts.{Judges, IsSound};
@@ -54,15 +53,11 @@ pub(crate) fn judge<D: Desk, N: Notes>(
     desk: &mut D,
     notes: &mut N,
 ) -> Result<Decision, Refusal<OutsideFault>>
-    ensures judged { IfOk result (λ decision. JudgesWith (D.bytes desk.old) elf.now source.now
+    ensures judged { IfOk result (λ decision. JudgesWith (D.state desk.old).files elf.now source.now
         (job_of job.now) (decision_of decision)) }
-    ensures reads { ReadsCertificate elf.now source.now (job_of job.now)
-        (desk_state (D.bytes desk.old) (D.left desk.old) (D.opened desk.old) (D.faults desk.old))
-        (desk_state (D.bytes desk.new) (D.left desk.new) (D.opened desk.new) (D.faults desk.new)) }
-    ensures kept { KeepsDesk
-        (desk_state (D.bytes desk.old) (D.left desk.old) (D.opened desk.old) (D.faults desk.old))
-        (desk_state (D.bytes desk.new) (D.left desk.new) (D.opened desk.new) (D.faults desk.new))
-        result }
+    ensures reads { ReadsCertificate elf.now source.now (job_of job.now) (D.state desk.old)
+        (D.state desk.new) }
+    ensures kept { KeepsDesk (D.state desk.old) (D.state desk.new) result }
 {
     match elf_read::read(alloc, elf) {
         Ok(image) => {
@@ -84,9 +79,7 @@ fn judge_source<D: Desk, N: Notes>(
     notes: &mut N,
 ) -> Result<Decision, Refusal<OutsideFault>>
     requires { IsRead image.now }
-    ensures { JudgesBy image.now source.now (job_of job.now)
-        (desk_state (D.bytes desk.old) (D.left desk.old) (D.opened desk.old) (D.faults desk.old))
-        (desk_state (D.bytes desk.new) (D.left desk.new) (D.opened desk.new) (D.faults desk.new))
+    ensures { JudgesBy image.now source.now (job_of job.now) (D.state desk.old) (D.state desk.new)
         result }
 {
     match tokens(alloc, source) {
@@ -107,9 +100,7 @@ fn judge_tokens<D: Desk, N: Notes>(
 ) -> Result<Decision, Refusal<OutsideFault>>
     requires read { IsRead image.now }
     requires lexes { AreTokens source.now (list_of lexed.now) }
-    ensures { JudgesBy image.now source.now (job_of job.now)
-        (desk_state (D.bytes desk.old) (D.left desk.old) (D.opened desk.old) (D.faults desk.old))
-        (desk_state (D.bytes desk.new) (D.left desk.new) (D.opened desk.new) (D.faults desk.new))
+    ensures { JudgesBy image.now source.now (job_of job.now) (D.state desk.old) (D.state desk.new)
         result }
 {
     match parse(alloc, lexed) {
@@ -132,9 +123,7 @@ fn judge_parsed<D: Desk, N: Notes>(
     requires read { IsRead image.now }
     requires lexes { AreTokens source.now (list_of lexed.now) }
     requires derives { HasTree source.now (tree_of tree.now) }
-    ensures { JudgesBy image.now source.now (job_of job.now)
-        (desk_state (D.bytes desk.old) (D.left desk.old) (D.opened desk.old) (D.faults desk.old))
-        (desk_state (D.bytes desk.new) (D.left desk.new) (D.opened desk.new) (D.faults desk.new))
+    ensures { JudgesBy image.now source.now (job_of job.now) (D.state desk.old) (D.state desk.new)
         result }
 {
     match definition_in(lexed) {
@@ -157,9 +146,7 @@ fn judge_tree<D: Desk, N: Notes>(
     requires read { IsRead image.now }
     requires derives { HasTree source.now (tree_of tree.now) }
     requires defines { DefinesNothing source.now }
-    ensures { JudgesBy image.now source.now (job_of job.now)
-        (desk_state (D.bytes desk.old) (D.left desk.old) (D.opened desk.old) (D.faults desk.old))
-        (desk_state (D.bytes desk.new) (D.left desk.new) (D.opened desk.new) (D.faults desk.new))
+    ensures { JudgesBy image.now source.now (job_of job.now) (D.state desk.old) (D.state desk.new)
         result }
 {
     // laws, of which nothing runs
@@ -184,9 +171,7 @@ fn judge_unit<D: Desk, N: Notes>(
     requires typed { IsTypedUnit (typed_of unit.now) }
     requires sizes { UnitSizes (typed_of unit.now) }
     ensures { (c : List ℕ) → IsC c (typed_of unit.now) → JudgesBy image.now c (job_of job.now)
-        (desk_state (D.bytes desk.old) (D.left desk.old) (D.opened desk.old) (D.faults desk.old))
-        (desk_state (D.bytes desk.new) (D.left desk.new) (D.opened desk.new) (D.faults desk.new))
-        result }
+        (D.state desk.old) (D.state desk.new) result }
 {
     let names = attempt!(names(alloc, job, image, unit), Refusal::NoMemory);
     judge_names(alloc, image, unit, job, names.as_slice(), desk, notes)

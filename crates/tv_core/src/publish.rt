@@ -2,7 +2,7 @@ ghost use Rattle.std.specs.Prelude.{◌≡◌, OnOk, IsErrOf};
 ghost use Rattle.attempt.specs.declared.refusal.Refusal.TheVariants.{NoMemory};
 ghost use Rattle.tv_base.specs.Faults.{HasCause};
 ghost use Rattle.tv_core.specs.Decisions.{decision_of, text_in};
-ghost use Rattle.tv_core.specs.Objects.{outputs_of, sink_state};
+ghost use Rattle.tv_core.specs.Objects.{outputs_of};
 ghost use Rattle.tv_core.specs.Ends.{LeavesText, LeavesTextPartly, Stores, Publishes};
 
 use crate::decision::Decision;
@@ -13,9 +13,7 @@ use tv_base::{OutsideFault, Sink, Store, write_all};
 
 /// Writes a text under a name.
 fn store_text<K: Store>(name: &str, text: &[u8], store: &mut K) -> Result<(), Refusal<OutsideFault>>
-    ensures { Stores name.now text.now
-        (sink_state (K.held store.old) (K.begun store.old) (K.faults store.old))
-        (sink_state (K.held store.new) (K.begun store.new) (K.faults store.new)) result }
+    ensures { Stores name.now text.now (K.state store.old) (K.state store.new) result }
 {
     match store.begin(name) {
         Ok(()) => write_all(store, text),
@@ -29,13 +27,14 @@ fn store_certificate<K: Store>(
     certificate: &Option<Vec<u8>>,
     store: &mut K,
 ) -> Result<(), Refusal<OutsideFault>>
-    ensures ok { OnOk result (LeavesText name.now (text_in certificate.now) (K.held store.old)
-        (K.held store.new)) }
-    ensures part { LeavesTextPartly name.now (text_in certificate.now) (K.held store.old)
-        (K.held store.new) }
-    ensures cause { HasCause (K.faults store.old) (K.faults store.new) result }
-    ensures unfailing { OnOk result (K.faults store.new ≡ K.faults store.old) }
-    ensures no_memory { IsErrOf result NoMemory → K.faults store.new ≡ K.faults store.old }
+    ensures ok { OnOk result (LeavesText name.now (text_in certificate.now) (K.state store.old).held
+        (K.state store.new).held) }
+    ensures part { LeavesTextPartly name.now (text_in certificate.now) (K.state store.old).held
+        (K.state store.new).held }
+    ensures cause { HasCause (K.state store.old).faults (K.state store.new).faults result }
+    ensures unfailing { OnOk result ((K.state store.new).faults ≡ (K.state store.old).faults) }
+    ensures no_memory { IsErrOf result NoMemory → (K.state store.new).faults
+        ≡ (K.state store.old).faults }
 {
     match certificate {
         Some(text) => store_text(name, text.as_slice(), store),
@@ -51,12 +50,8 @@ pub(crate) fn publish<R: Sink, K: Store>(
     out: &mut R,
     store: &mut K,
 ) -> Result<(), Refusal<OutsideFault>>
-    ensures { Publishes name.now (decision_of decision.now)
-        (outputs_of (sink_state (R.held out.old) (R.begun out.old) (R.faults out.old))
-        (sink_state (K.held store.old) (K.begun store.old) (K.faults store.old)))
-        (outputs_of (sink_state (R.held out.new) (R.begun out.new) (R.faults out.new))
-        (sink_state (K.held store.new) (K.begun store.new) (K.faults store.new)))
-        result }
+    ensures { Publishes name.now (decision_of decision.now) (outputs_of (R.state out.old)
+        (K.state store.old)) (outputs_of (R.state out.new) (K.state store.new)) result }
 {
     let text = report(alloc, &decision.verdict)?;
     attempt!(store_certificate(name, &decision.certificate, store));

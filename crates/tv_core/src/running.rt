@@ -4,7 +4,7 @@ ghost use Rattle.attempt.specs.declared.refusal.Refusal.TheVariants.{NoMemory};
 ghost use Rattle.tv_words.specs.Jobs.{job_of};
 ghost use Rattle.report_text_spec.specs.Verdict.{status_of};
 ghost use Rattle.tv_core.specs.Decisions.{decision_of, trails_of};
-ghost use Rattle.tv_core.specs.Objects.{state_of, desk_state, outputs_of, sink_state};
+ghost use Rattle.tv_core.specs.Objects.{state_of, outputs_of};
 ghost use Rattle.tv_core.specs.Ends.{AskFor, IsOutcome, certificate_name, Publishes, RunsTo};
 ghost use Rattle.tv_core.specs.Ends.{Ends};
 ghost use Rattle.tv_core.specs.Files.{KeepsDesk, ReadsAsked};
@@ -42,17 +42,11 @@ fn outcome<D: Desk, N: Notes>(
 ) -> Result<Decision, Refusal<OutsideFault>>
     ensures exact { IfOk result (λ decision. (words : List (List ℕ))
         → AskFor words (option_map job_of job.now)
-        → IsOutcome words (D.bytes desk.old) (certificate_name (option_map job_of job.now))
+        → IsOutcome words (D.state desk.old).files (certificate_name (option_map job_of job.now))
         (decision_of decision)) }
     ensures reads { (words : List (List ℕ)) → AskFor words (option_map job_of job.now)
-        → ReadsAsked words
-        (desk_state (D.bytes desk.old) (D.left desk.old) (D.opened desk.old) (D.faults desk.old))
-        (desk_state (D.bytes desk.new) (D.left desk.new) (D.opened desk.new)
-        (D.faults desk.new)) }
-    ensures kept { KeepsDesk
-        (desk_state (D.bytes desk.old) (D.left desk.old) (D.opened desk.old) (D.faults desk.old))
-        (desk_state (D.bytes desk.new) (D.left desk.new) (D.opened desk.new) (D.faults desk.new))
-        result }
+        → ReadsAsked words (D.state desk.old) (D.state desk.new) }
+    ensures kept { KeepsDesk (D.state desk.old) (D.state desk.new) result }
 {
     match job {
         Some(job) => judge_files(alloc, job, desk, notes),
@@ -82,11 +76,8 @@ fn give<R: Sink, K: Store>(
     certificate: &mut K,
     trails: &mut Trails,
 ) -> Result<u8, Refusal<OutsideFault>>
-    ensures published { Publishes name.now (decision_of decision)
-        (outputs_of (sink_state (R.held report.old) (R.begun report.old) (R.faults report.old))
-        (sink_state (K.held certificate.old) (K.begun certificate.old) (K.faults certificate.old)))
-        (outputs_of (sink_state (R.held report.new) (R.begun report.new) (R.faults report.new))
-        (sink_state (K.held certificate.new) (K.begun certificate.new) (K.faults certificate.new)))
+    ensures published { Publishes name.now (decision_of decision) (outputs_of (R.state report.old)
+        (K.state certificate.old)) (outputs_of (R.state report.new) (K.state certificate.new))
         result }
     ensures status { IfOk result (λ code. (code ≡ status_of (decision_of decision).verdict)
         × (trails_of trails.new ≡ (decision_of decision).trails)) }
@@ -113,15 +104,8 @@ fn run_job<D: Desk, R: Sink, K: Store, N: Notes>(
     notes: &mut N,
 ) -> Result<u8, Refusal<OutsideFault>>
     ensures { (words : List (List ℕ)) → AskFor words (option_map job_of job.now)
-        → RunsTo words
-        (state_of (desk_state (D.bytes desk.old) (D.left desk.old) (D.opened desk.old)
-        (D.faults desk.old))
-        (sink_state (R.held report.old) (R.begun report.old) (R.faults report.old))
-        (sink_state (K.held certificate.old) (K.begun certificate.old) (K.faults certificate.old)))
-        (state_of (desk_state (D.bytes desk.new) (D.left desk.new) (D.opened desk.new)
-        (D.faults desk.new))
-        (sink_state (R.held report.new) (R.begun report.new) (R.faults report.new))
-        (sink_state (K.held certificate.new) (K.begun certificate.new) (K.faults certificate.new)))
+        → RunsTo words (state_of (D.state desk.old) (R.state report.old) (K.state certificate.old))
+        (state_of (D.state desk.new) (R.state report.new) (K.state certificate.new))
         (trails_of trails.old) (trails_of trails.new) result }
 {
     match outcome(alloc, job, desk, notes) {
@@ -140,16 +124,9 @@ fn try_run<D: Desk, R: Sink, K: Store, N: Notes>(
     trails: &mut Trails,
     notes: &mut N,
 ) -> Result<u8, Refusal<OutsideFault>>
-    ensures { RunsTo (map string_bytes words.now)
-        (state_of (desk_state (D.bytes desk.old) (D.left desk.old) (D.opened desk.old)
-        (D.faults desk.old))
-        (sink_state (R.held report.old) (R.begun report.old) (R.faults report.old))
-        (sink_state (K.held certificate.old) (K.begun certificate.old) (K.faults certificate.old)))
-        (state_of (desk_state (D.bytes desk.new) (D.left desk.new) (D.opened desk.new)
-        (D.faults desk.new))
-        (sink_state (R.held report.new) (R.begun report.new) (R.faults report.new))
-        (sink_state (K.held certificate.new) (K.begun certificate.new) (K.faults certificate.new)))
-        (trails_of trails.old) (trails_of trails.new) result }
+    ensures { RunsTo (map string_bytes words.now) (state_of (D.state desk.old) (R.state report.old)
+        (K.state certificate.old)) (state_of (D.state desk.new) (R.state report.new)
+        (K.state certificate.new)) (trails_of trails.old) (trails_of trails.new) result }
 {
     match asked(alloc, words) {
         Ok(job) => run_job(alloc, &job, desk, report, certificate, trails, notes),
@@ -195,16 +172,9 @@ pub fn run<D: Desk, R: Sink, K: Store, N: Notes>(
     trails: &mut Trails,
     notes: &mut N,
 ) -> u8
-    ensures { Ends (map string_bytes words.now)
-        (state_of (desk_state (D.bytes desk.old) (D.left desk.old) (D.opened desk.old)
-        (D.faults desk.old))
-        (sink_state (R.held report.old) (R.begun report.old) (R.faults report.old))
-        (sink_state (K.held certificate.old) (K.begun certificate.old) (K.faults certificate.old)))
-        (state_of (desk_state (D.bytes desk.new) (D.left desk.new) (D.opened desk.new)
-        (D.faults desk.new))
-        (sink_state (R.held report.new) (R.begun report.new) (R.faults report.new))
-        (sink_state (K.held certificate.new) (K.begun certificate.new) (K.faults certificate.new)))
-        (trails_of trails.new) result }
+    ensures { Ends (map string_bytes words.now) (state_of (D.state desk.old) (R.state report.old)
+        (K.state certificate.old)) (state_of (D.state desk.new) (R.state report.new)
+        (K.state certificate.new)) (trails_of trails.new) result }
 {
     // laws, of which nothing runs
     one_verdict();

@@ -1,5 +1,6 @@
 -- What contracts see of the objects in memory.
 use Rattle.std.specs.Prelude.{ℕ, List, [], Option, Some, None, map, string_bytes}
+use Rattle.tv_base.specs.States.{DeskState, SinkState}
 use Rattle.tv_outside.specs.Given.{bytes_of, steady_bytes_of}
 use Rattle.tv_outside.specs.Shelf.{unnamed, on_shelf}
 use Rattle.tv_outside.specs.declared.desks.MemDesk.{MemDesk}
@@ -67,3 +68,30 @@ steady_store_held store = on_shelf store.shelf
 
 abbrev pub steady_store_begun : SteadyStore → List ℕ
 steady_store_begun store = string_bytes store.shelf.last.name
+
+-- ---- all of it
+
+abbrev pub desk_state : MemDesk → DeskState
+desk_state desk = record { files = desk_bytes desk; left = desk_left desk; opened = desk_opened desk; faults = desk_faults desk }
+
+abbrev pub steady_state : SteadyDesk → DeskState
+steady_state desk = record { files = steady_bytes desk; left = steady_left desk; opened = steady_opened desk; faults = steady_faults desk }
+
+abbrev pub sink_state : MemSink → SinkState
+sink_state sink = record { held = sink_held sink; begun = sink_begun sink; faults = sink_faults sink }
+
+abbrev pub steady_sink_state : SteadySink → SinkState
+steady_sink_state sink = record { held = steady_sink_held sink; begun = steady_sink_begun sink; faults = steady_faults sink }
+
+abbrev pub store_state : MemStore → SinkState
+store_state store = record { held = store_held store; begun = store_begun store; faults = store_faults store }
+
+abbrev pub steady_store_state : SteadyStore → SinkState
+steady_store_state store = record { held = steady_store_held store; begun = steady_store_begun store; faults = steady_faults store }
+
+-- of an object of the operating system, whose contents contracts do not see
+abbrev pub unseen_desk : (faults : ℕ) → DeskState
+unseen_desk faults = record { files = λ name. None; left = None; opened = None; faults = faults }
+
+abbrev pub unseen_sink : (begun : List ℕ) → (faults : ℕ) → SinkState
+unseen_sink begun faults = record { held = λ name. None; begun = begun; faults = faults }

@@ -3,6 +3,7 @@ ghost use Rattle.std.specs.Prelude.{IfSome, IsOk, IfOk, OnOk, OnErr, IsErrOf};
 ghost use Rattle.attempt.specs.declared.refusal.Refusal.TheVariants.{NoMemory};
 ghost use Rattle.tv_base.specs.Faults.{HasCause};
 ghost use Rattle.tv_base.specs.Reading.{HandsOverFirst, ZeroAtEnd, with_name};
+ghost use Rattle.tv_outside.specs.Contents.{desk_state, steady_state};
 ghost use Rattle.tv_outside.specs.Contents.{desk_bytes, desk_left, desk_opened, desk_faults};
 ghost use Rattle.tv_outside.specs.Contents.{steady_bytes, steady_left, steady_opened};
 ghost use Rattle.tv_outside.specs.Contents.{steady_faults};
@@ -64,13 +65,7 @@ fn add_name(alloc: Global, opened: &mut Vec<String>, name: &str) -> Result<(), A
 }
 
 impl<'a> Desk for MemDesk<'a> {
-    ghost bytes = { desk_bytes };
-
-    ghost left = { desk_left };
-
-    ghost opened = { desk_opened };
-
-    ghost faults = { desk_faults };
+    ghost state = { desk_state };
 
     fn begin(&mut self, name: &str) -> Result<(), Refusal<OutsideFault>>
         ensures planned { GoesAs (desk_plan self.old) (desk_bytes self.old name.now ≡ None) result }
@@ -141,13 +136,7 @@ impl<'a> SteadyDesk<'a> {
 }
 
 impl<'a> Desk for SteadyDesk<'a> {
-    ghost bytes = { steady_bytes };
-
-    ghost left = { steady_left };
-
-    ghost opened = { steady_opened };
-
-    ghost faults = { steady_faults };
+    ghost state = { steady_state };
 
     fn begin(&mut self, name: &str) -> Result<(), Refusal<OutsideFault>>
         ensures ok { IsOk result }

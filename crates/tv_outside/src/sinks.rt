@@ -2,6 +2,7 @@ ghost use Rattle.std.specs.Prelude.{◌≡◌, ◌<◌, ◌≤◌, [], length, I
 ghost use Rattle.attempt.specs.declared.refusal.Refusal.TheVariants.{NoMemory};
 ghost use Rattle.tv_base.specs.Faults.{HasCause};
 ghost use Rattle.tv_base.specs.Writing.{GrowsByFirst};
+ghost use Rattle.tv_outside.specs.Contents.{sink_state, steady_sink_state};
 ghost use Rattle.tv_outside.specs.Contents.{sink_held, sink_begun, sink_faults};
 ghost use Rattle.tv_outside.specs.Contents.{steady_sink_held, steady_sink_begun, steady_faults};
 ghost use Rattle.tv_outside.specs.Shelf.{unnamed};
@@ -50,11 +51,7 @@ impl<'a> MemSink<'a> {
 }
 
 impl<'a> Sink for MemSink<'a> {
-    ghost held = { sink_held };
-
-    ghost begun = { sink_begun };
-
-    ghost faults = { sink_faults };
+    ghost state = { sink_state };
 
     fn put(&mut self, bytes: &[u8]) -> Result<usize, Refusal<OutsideFault>>
         ensures planned { TakesAs (sink_plan self.old) (length bytes.now) result }
@@ -101,11 +98,7 @@ impl SteadySink {
 }
 
 impl Sink for SteadySink {
-    ghost held = { steady_sink_held };
-
-    ghost begun = { steady_sink_begun };
-
-    ghost faults = { steady_faults };
+    ghost state = { steady_sink_state };
 
     fn put(&mut self, bytes: &[u8]) -> Result<usize, Refusal<OutsideFault>>
         ensures only_memory { OnErr result (IsErrOf result NoMemory) }

@@ -3,6 +3,7 @@ ghost use Rattle.std.specs.Prelude.{IsErrOf};
 ghost use Rattle.attempt.specs.declared.refusal.Refusal.TheVariants.{NoMemory};
 ghost use Rattle.tv_base.specs.Faults.{HasCause};
 ghost use Rattle.tv_base.specs.Writing.{GrowsByFirst, IsEmptied};
+ghost use Rattle.tv_outside.specs.Contents.{store_state, steady_store_state};
 ghost use Rattle.tv_outside.specs.Contents.{store_held, store_begun, store_faults};
 ghost use Rattle.tv_outside.specs.Contents.{steady_store_held, steady_store_begun, steady_faults};
 ghost use Rattle.tv_outside.specs.Plans.{store_plan, fresh, called, GoesAs, TakesAs};
@@ -59,11 +60,7 @@ impl<'a> MemStore<'a> {
 }
 
 impl<'a> Sink for MemStore<'a> {
-    ghost held = { store_held };
-
-    ghost begun = { store_begun };
-
-    ghost faults = { store_faults };
+    ghost state = { store_state };
 
     fn put(&mut self, bytes: &[u8]) -> Result<usize, Refusal<OutsideFault>>
         ensures planned { TakesAs (store_plan self.old) (length bytes.now) result }
@@ -139,11 +136,7 @@ impl SteadyStore {
 }
 
 impl Sink for SteadyStore {
-    ghost held = { steady_store_held };
-
-    ghost begun = { steady_store_begun };
-
-    ghost faults = { steady_faults };
+    ghost state = { steady_store_state };
 
     fn put(&mut self, bytes: &[u8]) -> Result<usize, Refusal<OutsideFault>>
         ensures only_memory { OnErr result (IsErrOf result NoMemory) }

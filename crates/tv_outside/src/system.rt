@@ -2,6 +2,7 @@ ghost use Rattle.std.specs.Prelude.{◌≡◌, ◌<◌, ◌≤◌, [], Option, N
 ghost use Rattle.std.specs.Prelude.{IfOk, OnOk};
 ghost use Rattle.attempt.specs.declared.refusal.Refusal.TheVariants.{NoMemory};
 ghost use Rattle.tv_base.specs.Faults.{HasCause};
+ghost use Rattle.tv_outside.specs.Contents.{unseen_desk, unseen_sink};
 
 use attempt::Refusal;
 use std::io::{self, ErrorKind, Print, Read, Write};
@@ -57,7 +58,7 @@ pub struct FileDesk<R: Files + Drop> {
 impl<R: Files + Drop> FileDesk<R> {
     /// A desk with no file begun.
     pub fn new(rt: R) -> Self
-        ensures { ⟦<FileDesk<R> as Desk>⟧.faults result ≡ 0 }
+        ensures { (⟦<FileDesk<R> as Desk>⟧.state result).faults ≡ 0 }
     {
         FileDesk {
             rt,
@@ -68,13 +69,7 @@ impl<R: Files + Drop> FileDesk<R> {
 }
 
 impl<R: Files + Drop> Desk for FileDesk<R> {
-    ghost bytes = { λ _ _. None };
-
-    ghost left = { λ _. None };
-
-    ghost opened = { λ _. None };
-
-    ghost faults = { λ desk. desk.faults };
+    ghost state = { λ desk. unseen_desk desk.faults };
 
     fn begin(&mut self, name: &str) -> Result<(), Refusal<OutsideFault>> {
         match std::fs::open(&self.rt, name) {
@@ -130,18 +125,14 @@ pub struct OutSink<R: Print + Drop> {
 impl<R: Print + Drop> OutSink<R> {
     /// Standard output, with no fault so far.
     pub fn new(rt: R) -> Self
-        ensures { ⟦<OutSink<R> as Sink>⟧.faults result ≡ 0 }
+        ensures { (⟦<OutSink<R> as Sink>⟧.state result).faults ≡ 0 }
     {
         OutSink { rt, faults: 0 }
     }
 }
 
 impl<R: Print + Drop> Sink for OutSink<R> {
-    ghost held = { λ _ _. None };
-
-    ghost begun = { λ _. [] };
-
-    ghost faults = { λ sink. sink.faults };
+    ghost state = { λ sink. unseen_sink [] sink.faults };
 
     fn put(&mut self, bytes: &[u8]) -> Result<usize, Refusal<OutsideFault>> {
         let outcome = self.rt.write_some(bytes);
@@ -161,8 +152,8 @@ pub struct FileStore<R: Files + AllocGlobal + Drop> {
 impl<R: Files + AllocGlobal + Drop> FileStore<R> {
     /// A store with no file begun, where every write fails.
     pub fn new(rt: R) -> Self
-        ensures faults { ⟦<FileStore<R> as Sink>⟧.faults result ≡ 0 }
-        ensures begun { ⟦<FileStore<R> as Sink>⟧.begun result ≡ [] }
+        ensures faults { (⟦<FileStore<R> as Sink>⟧.state result).faults ≡ 0 }
+        ensures begun { (⟦<FileStore<R> as Sink>⟧.state result).begun ≡ [] }
     {
         let begun = String::new(rt.alloc());
         FileStore {
@@ -175,11 +166,7 @@ impl<R: Files + AllocGlobal + Drop> FileStore<R> {
 }
 
 impl<R: Files + AllocGlobal + Drop> Sink for FileStore<R> {
-    ghost held = { λ _ _. None };
-
-    ghost begun = { λ store. string_bytes store.begun };
-
-    ghost faults = { λ store. store.faults };
+    ghost state = { λ store. unseen_sink (string_bytes store.begun) store.faults };
 
     fn put(&mut self, bytes: &[u8]) -> Result<usize, Refusal<OutsideFault>> {
         let Some(file) = &mut self.file else {

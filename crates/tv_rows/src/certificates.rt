@@ -5,8 +5,7 @@ ghost use Rattle.c_graph_spec.specs.Sizes.{UnitSizes};
 ghost use Rattle.c_types_spec.specs.HasType.{IsTypedUnit};
 ghost use Rattle.c_types.specs.Typed.{typed_of};
 ghost use Rattle.pair_setup_calls.specs.Names.{texts_of};
-ghost use Rattle.pair_setup_spec.specs.Outcome.{IsPaired};
-ghost use Rattle.pair_setup.specs.Answers.{pairs_of};
+ghost use Rattle.pair_setup.specs.Answers.{ArePairs};
 ghost use Rattle.cert_text.specs.Certificates.{certificate_of};
 ghost use Rattle.validity_laws.specs.CheckStatements.{AreLines};
 
@@ -73,8 +72,7 @@ fn put_paired(
 )
     requires typed { IsTypedUnit (typed_of unit.now) }
     requires sizes { UnitSizes (typed_of unit.now) }
-    requires paired { IsPaired image.now (typed_of unit.now) (texts_of list.now)
-        (pairs_of (texts_of list.now) pairs.now) }
+    requires paired { ArePairs image.now (typed_of unit.now) (texts_of list.now) pairs.now }
     requires lines { IfSome cert (λ cert. AreLines (certificate_of cert.now)) }
 {
     match Sides::new(alloc, image, unit, list, pairs) {

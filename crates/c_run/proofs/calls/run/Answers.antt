@@ -1,6 +1,5 @@
-use Rattle.std.proofs.Common.{◌∙◌, ap}
+use Rattle.std.proofs.Common.{◌∙◌}
 use Rattle.c_run.proofs.Driving.{run_none, run_more, run_back, run_broke}
-use Rattle.attempt.specs.declared.refusal.Refusal.TheVariants.{Fault}
 use Rattle.c_run.proofs.calls.run.Goals as goal
 
 pub returns-then-turns-eq0 : goal.returns-then-turns-eq0
@@ -12,5 +11,7 @@ returns-in-More c = run_more _ c.args.call.now.function.now c.args.call.now.argu
 pub returns-in-Ok : goal.returns-in-Ok
 returns-in-Ok c = run_back _ c.args.call.now.function.now c.args.call.now.arguments.now c.args.call.now.memory.now c.in-Ok-attempt.field-0 c.run_body.new.after c.args.turns c.in-Ok-attempt.ensures c.in-Ok.ended c.in-Back.value c.in-Ok.ensures c.in-Back.is
 
-pub returns-in-Fault-Broke : goal.returns-in-Fault-Broke
-returns-in-Fault-Broke c = run_broke _ c.args.call.now.function.now c.args.call.now.arguments.now c.args.call.now.memory.now c.in-Ok-attempt.field-0 c.run_body.new.after c.args.turns c.in-Ok-attempt.ensures c.in-Err.stop c.in-Fault-Broke.guard c.in-Fault-Broke.offset c.in-Err.ensures (c.in-Fault-Broke.is ∙ ap Fault c.in-Fault-Broke.field-0-is)
+pub returns-in-Fault : goal.returns-in-Fault
+returns-in-Fault c =
+    c.broken.ensures
+    ∙ run_broke _ c.args.call.now.function.now c.args.call.now.arguments.now c.args.call.now.memory.now c.in-Ok-attempt.field-0 c.run_body.new.after c.args.turns c.in-Ok-attempt.ensures c.in-Err.refusal c.in-Fault.stop c.in-Err.ensures c.in-Fault.is

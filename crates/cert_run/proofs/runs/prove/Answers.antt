@@ -1,17 +1,16 @@
 use Rattle.std.proofs.lemmas.Result.{IfOk-weaker}
 use Rattle.c_types.specs.Typed.{typed_of}
 use Rattle.pair_setup_calls.specs.Names.{texts_of}
-use Rattle.pair_setup.specs.Answers.{pairs_of}
 use Rattle.cert_run.proofs.SideFacts.{finds}
 use Rattle.cert_run.proofs.runs.prove.Goals as goal
 
 pub new-requires : goal.new-requires
-new-requires g c = record { typed = c.requires.typed; sizes = c.requires.sizes; paired = c.requires.paired }
+new-requires g c = record { typed = c.requires.typed; sizes = c.requires.sizes; paired = c.requires.pairs_are }
 
 pub returns-2 : goal.returns-2
 returns-2 g c =
     let list = texts_of c.args.list.now in
     IfOk-weaker c.search_sides.result _ _
-    (finds c.args.image.now (typed_of c.args.unit.now) list (pairs_of list c.args.pairs.now) c.requires c.in-Ok-attempt.field-0 (c.in-Ok-attempt.ensures c.requires.read)
+    (finds c.args.image.now (typed_of c.args.unit.now) list c.args.pairs.now c.requires c.in-Ok-attempt.field-0 (c.in-Ok-attempt.ensures c.requires.read)
     c.files_have_words.ensures c.logged_leaves_are_valid.ensures c.functions_have_truths.ensures)
     c.search_sides.ensures

@@ -5,7 +5,7 @@ use Rattle.graph_core_spec.specs.Graph.{Graph}
 use Rattle.graph_core.specs.declared.graph.Graph as code
 use Rattle.graph_core.specs.Graphs.{graph_of, graphs_of}
 use Rattle.c_graph.specs.declared.source_graph.SourceGraph.{SourceGraph}
-use Rattle.cert_run.proofs.Coded.{nothing_left}
+use Rattle.pair_setup.proofs.Seams.{nothing_left}
 use Rattle.cert_run.proofs.source.add_graphs.Goals as goal
 
 abbrev plain : SourceGraph → Graph

@@ -1,4 +1,4 @@
-use Rattle.std.proofs.Common.{◌∙◌, List, [], ◌∷◌, ◌++◌, take, sym, ap, subst, arith}
+use Rattle.std.proofs.Common.{List, take, get_or, None, sym, subst, arith}
 use Rattle.pair_setup.specs.declared.calling.Step.{Step}
 use Rattle.std.specs.Prelude.{nat_eq}
 use Rattle.std.proofs.lemmas.List.{take_more, take_all}
@@ -14,8 +14,9 @@ pub loop-step-preserved : goal.loop-step-preserved
 loop-step-preserved c =
     let steps = c.args.steps.now in
     let i = c.loop-step.step-index in
-    subst (λ (l : List Step). IsTally (get nat_eq c.args.known.now) l c.in_ok-more.more) (sym (take_more steps i c.step-item.result c.loop-step-test.true ∙ ap (λ (x : Step). take i steps ++ x ∷ []) (sym c.step-item.is)))
-    (tally-more (get nat_eq c.args.known.now) (take i steps) c.step-item.result c.loop-step.tally c.in_ok-more.more c.loop-step.invariant c.in_ok-more.ensures)
+    let nothing : Step = record { opening = 0; callee = None } in
+    subst (λ (l : List Step). IsTally (get nat_eq c.args.known.now) l c.in_ok-more.more) (sym (take_more steps i nothing c.loop-step-test.true))
+    (tally-more (get nat_eq c.args.known.now) (take i steps) (get_or steps i nothing) c.loop-step.tally c.in_ok-more.more c.loop-step.invariant c.in_ok-more.ensures)
 
 pub returns : goal.returns
 returns c =

@@ -1,4 +1,4 @@
-use Rattle.std.proofs.Common.{◌∙◌, List, [], ◌∷◌, ◌++◌, take, sym, ap, subst, arith}
+use Rattle.std.proofs.Common.{List, take, get_or, None, sym, subst, arith}
 use Rattle.pair_setup.specs.declared.calling.Step.{Step}
 use Rattle.std.proofs.lemmas.List.{take_more, take_all}
 use Rattle.call_graph.specs.Graph.{Grows}
@@ -14,8 +14,9 @@ pub loop-step-preserved : goal.loop-step-preserved
 loop-step-preserved c =
     let steps = c.args.steps.now in
     let i = c.loop-step.step-index in
-    subst (λ (l : List Step). Grows (IsOf IsCalled l) c.args.entries.now.keys c.add_callee.new.entries.keys) (sym (take_more steps i c.step-item.result c.loop-step-test.true ∙ ap (λ (x : Step). take i steps ++ x ∷ []) (sym c.step-item.is)))
-    (of-more IsCalled (take i steps) c.step-item.result c.args.entries.now.keys c.loop-step.entries.keys c.add_callee.new.entries.keys c.loop-step.invariant
+    let nothing : Step = record { opening = 0; callee = None } in
+    subst (λ (l : List Step). Grows (IsOf IsCalled l) c.args.entries.now.keys c.add_callee.new.entries.keys) (sym (take_more steps i nothing c.loop-step-test.true))
+    (of-more IsCalled (take i steps) (get_or steps i nothing) c.args.entries.now.keys c.loop-step.entries.keys c.add_callee.new.entries.keys c.loop-step.invariant
     c.in-Ok-attempt.ensures)
 
 pub returns : goal.returns

@@ -4,11 +4,11 @@ use Rattle.tv_base.proofs.reading.read_up_to.Given as goal
 
 abbrev pub invariant-pieces : goal.invariant-pieces
 invariant-pieces g l =
-    HandsOver (g.D.Desk.left l.initial.desk) l.bytes.items (g.D.Desk.left l.desk)
+    HandsOver (g.D.Desk.state l.initial.desk).left l.bytes.items (g.D.Desk.state l.desk).left
     × (vec_len l.bytes ≤ l.most)
-    × (g.D.Desk.bytes l.desk ≡ g.D.Desk.bytes l.initial.desk)
-    × (g.D.Desk.opened l.desk ≡ g.D.Desk.opened l.initial.desk)
-    × (g.D.Desk.faults l.desk ≡ g.D.Desk.faults l.initial.desk)
+    × ((g.D.Desk.state l.desk).files ≡ (g.D.Desk.state l.initial.desk).files)
+    × ((g.D.Desk.state l.desk).opened ≡ (g.D.Desk.state l.initial.desk).opened)
+    × ((g.D.Desk.state l.desk).faults ≡ (g.D.Desk.state l.initial.desk).faults)
     × (vec_len l.buf ≡ vec_len l.initial.buf)
 
 abbrev pub decreases-pieces : goal.decreases-pieces

@@ -14,7 +14,7 @@ judge_with_elf-requires g c =
     let job = asked_of (job_of c.args.job.now) in
     let read = renamed _ _ _ _ _ _ c.elf_name.ensures c.in-Ok.ensures.reads in
     subst (λ files. AreOf files job.elf MAX_ELF_BYTES c.as_slice.result.now) (sym c.in-Ok.ensures.kept.same_files)
-    (subst (AreOf (g.D.Desk.bytes c.args.desk.now) job.elf MAX_ELF_BYTES) (sym c.as_slice.ensures.value) read.bytes)
+    (subst (AreOf (g.D.Desk.state c.args.desk.now).files job.elf MAX_ELF_BYTES) (sym c.as_slice.ensures.value) read.bytes)
 
 pub returns-in-Ok : goal.returns-in-Ok
 returns-in-Ok g c =
@@ -24,7 +24,7 @@ returns-in-Ok g c =
     record {
       judged = subst (λ files. IfOk c.judge_with_elf.result (λ d. JudgesFiles files command (decision_of d))) kept.same_files c.judge_with_elf.ensures.judged;
       reads = then_source command _ _ _ kept.same_files c.as_slice.result.now
-          (subst (AreOf (g.D.Desk.bytes c.args.desk.now) (asked_of command).elf MAX_ELF_BYTES) (sym c.as_slice.ensures.value) read.bytes)
+          (subst (AreOf (g.D.Desk.state c.args.desk.now).files (asked_of command).elf MAX_ELF_BYTES) (sym c.as_slice.ensures.value) read.bytes)
           read.taken read.opened c.judge_with_elf.ensures.reads;
       kept = then_keeps _ _ c.judge_with_elf.result _ kept.same_files kept.unfailing c.judge_with_elf.ensures.kept;
     }

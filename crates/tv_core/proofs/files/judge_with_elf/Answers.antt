@@ -14,7 +14,7 @@ pub returns-then-elf-gt-MAX_ELF_BYTES : goal.returns-then-elf-gt-MAX_ELF_BYTES
 returns-then-elf-gt-MAX_ELF_BYTES g c =
     let command = job_of c.args.job.now in
     record {
-      judged = subst (JudgesFiles (g.D.Desk.bytes c.args.desk.now) command) (sym c.plain.ensures)
+      judged = subst (JudgesFiles (g.D.Desk.state c.args.desk.now).files command) (sym c.plain.ensures)
           (elf_too_large _ command c.args.elf.now c.requires (omega arith), elf_of_command command);
       reads = record { taken = inl (inl refl); opened = inl refl };
       kept = ended_keeps _ _ _ refl refl tt;
@@ -22,7 +22,7 @@ returns-then-elf-gt-MAX_ELF_BYTES g c =
 
 pub returns-in-Ok : goal.returns-in-Ok
 returns-in-Ok g c =
-    let files = g.D.Desk.bytes c.args.desk.now in
+    let files = (g.D.Desk.state c.args.desk.now).files in
     let command = job_of c.args.job.now in
     let elf = c.args.elf.now in
     let read = renamed _ _ _ _ _ _ c.source_name.ensures c.in-Ok.ensures.reads in

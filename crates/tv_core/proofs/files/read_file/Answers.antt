@@ -1,14 +1,13 @@
 use Rattle.std.proofs.Common.{inl}
 use Rattle.tv_core.proofs.Desks.{then_keeps, same_fault, read_begun}
-use Rattle.tv_core.specs.Objects.{desk_state}
 use Rattle.tv_core.proofs.files.read_file.Goals as goal
 
 pub returns-in-Ok : goal.returns-in-Ok
 returns-in-Ok g c = record {
-  reads = read_begun c.args.name.now c.args.maximum _ _ (g.D.Desk.left c.begin.new.self) (g.D.Desk.opened c.begin.new.self) c.read_up_to.result
+  reads = read_begun c.args.name.now c.args.maximum _ _ (g.D.Desk.state c.begin.new.self).left (g.D.Desk.state c.begin.new.self).opened c.read_up_to.result
       c.in-Ok.ensures.begins c.in-Ok.ensures.opens c.read_up_to.ensures.same_names c.read_up_to.ensures.taken c.read_up_to.ensures.part;
   kept = then_keeps _ _ c.read_up_to.result
-      (desk_state (g.D.Desk.bytes c.begin.new.self) (g.D.Desk.left c.begin.new.self) (g.D.Desk.opened c.begin.new.self) (g.D.Desk.faults c.begin.new.self))
+      (g.D.Desk.state c.begin.new.self)
       c.in-Ok.ensures.same_bytes c.in-Ok.ensures.unfailing
       (record {
         same_files = c.read_up_to.ensures.same_bytes;

@@ -17,7 +17,7 @@ pub returns-in-Ok : goal.returns-in-Ok
 returns-in-Ok g c =
     let pairs = pairs_of (texts_of c.args.list.now) c.args.pairs.now in
     let bytes = c.as_slice.result.now in
-    let files = g.D.Desk.bytes c.args.desk.now in
+    let files = (g.D.Desk.state c.args.desk.now).files in
     let name = c.args.name.now in
     let read = c.in-Ok.ensures.reads in
     let kept = c.in-Ok.ensures.kept in

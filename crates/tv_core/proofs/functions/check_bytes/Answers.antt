@@ -14,7 +14,7 @@ returns-then-certificate-gt-MAX_CERTIFICATE_BYTES c = inl (omega arith, refl)
 
 pub certificate_verdict-requires : goal.certificate_verdict-requires
 certificate_verdict-requires c =
-    enough c.args.image.now (typed_of c.args.unit.now) c.args.list.now c.args.pairs.now c.as_slice.result.now c.as_slice.ensures.value c.requires.paired
+    enough c.args.image.now (typed_of c.args.unit.now) c.args.list.now c.args.pairs.now c.as_slice.result.now c.as_slice.ensures.value c.requires.pairs_are.paired
 
 pub returns-2 : goal.returns-2
 returns-2 c =
@@ -28,6 +28,6 @@ returns-2 c =
     IfOk-weaker c.certificate_verdict.result (IsOfOutcome list functions o) (λ verdict. IsCertificateVerdict image unit pairs bytes (verdict_of verdict))
     (λ verdict h. inr (
       omega arith,
-      certificate_checked image unit list c.args.pairs.now functions c.as_slice.ensures.value c.requires.paired bytes o (verdict_of verdict)
+      certificate_checked image unit list c.args.pairs.now functions c.as_slice.ensures.value c.requires.pairs_are.paired bytes o (verdict_of verdict)
           c.in-Ok-attempt.ensures h,
     )) c.certificate_verdict.ensures

@@ -13,15 +13,15 @@ use Rattle.tv_core.proofs.functions.judge_list.Goals as goal
 
 pub judge_paired-requires-clause-run : goal.judge_paired-requires-clause-run
 judge_paired-requires-clause-run g c =
-    record { read = c.requires.read; typed = c.requires.typed; sizes = c.requires.sizes; paired = c.in-Ok.ensures.pairs }
+    record { read = c.requires.read; typed = c.requires.typed; sizes = c.requires.sizes; pairs_are = c.in-Ok.ensures.pairs }
 
 pub judge_paired-requires-clause-some : goal.judge_paired-requires-clause-some
-judge_paired-requires-clause-some g c = not_empty c.args.list.now c.in-Ok.ensures.pairs.some
+judge_paired-requires-clause-some g c = not_empty c.args.list.now c.in-Ok.ensures.pairs.paired.some
 
 pub returns-in-Ok : goal.returns-in-Ok
 returns-in-Ok g c =
     judged_paired c.args.image.now (typed_of c.args.unit.now) (job_of c.args.job.now) (texts_of c.args.list.now) c.in-Ok.pairs _ _ c.judge_paired.result
-    c.requires.few c.in-Ok.ensures.pairs c.judge_paired.ensures
+    c.requires.few c.in-Ok.ensures.pairs.paired c.judge_paired.ensures
 
 pub returns-in-Err : goal.returns-in-Err
 returns-in-Err g c =
@@ -29,7 +29,7 @@ returns-in-Err g c =
     let unit = typed_of c.args.unit.now in
     let command = job_of c.args.job.now in
     let list = texts_of c.args.list.now in
-    let files = g.D.Desk.bytes c.args.desk.now in
+    let files = (g.D.Desk.state c.args.desk.now).files in
     let answer = c.refused.result in
     let r = c.plain_from_memory.result in
     let from = c.plain_from_memory.ensures in

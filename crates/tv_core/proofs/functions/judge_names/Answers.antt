@@ -12,7 +12,7 @@ returns-then-names-gt-MAX_FUNCTIONS g c =
     let image = c.args.image.now in
     let unit = typed_of c.args.unit.now in
     let command = job_of c.args.job.now in
-    let files = g.D.Desk.bytes c.args.desk.now in
+    let files = (g.D.Desk.state c.args.desk.now).files in
     judged_here image unit command c.args.names.now _ _
     (subst (AnswersList files image unit command c.args.names.now) (sym c.plain.ensures) (refused_many files image unit command c.args.names.now (search rules))) tt
 

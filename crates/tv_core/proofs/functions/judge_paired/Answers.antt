@@ -21,7 +21,7 @@ pub show_function-requires : goal.show_function-requires
 show_function-requires g c =
     subst (IsListed c.args.image.now (typed_of c.args.unit.now) (get_or c.args.list.now 0 (record { ref_ptr = (0, 0); now = [] })).now) (sym c.index.ensures)
     (listed_at c.args.image.now (typed_of c.args.unit.now) c.args.list.now c.args.pairs.now.functions.items 0 (record { ref_ptr = (0, 0); now = [] }) c.index.result.now
-    (are_paired c.args.image.now (typed_of c.args.unit.now) (texts_of c.args.list.now) c.args.pairs.now c.requires.run.paired) c.requires.some)
+    (are_paired c.args.image.now (typed_of c.args.unit.now) (texts_of c.args.list.now) c.args.pairs.now c.requires.run.pairs_are.paired) c.requires.some)
 
 pub returns-in-Show : goal.returns-in-Show
 returns-in-Show g c =

@@ -11,7 +11,7 @@ use Rattle.tv_core.proofs.running.outcome.Goals as goal
 
 pub returns-in-Some : goal.returns-in-Some
 returns-in-Some g c =
-    let files = g.D.Desk.bytes c.args.desk.now in
+    let files = (g.D.Desk.state c.args.desk.now).files in
     let asked = option_map job_of c.args.job.now in
     let command = job_of c.in-Some.job in
     let is = ap (option_map job_of) c.in-Some.is in
@@ -29,7 +29,7 @@ pub returns-in-None : goal.returns-in-None
 returns-in-None g c = record {
   exact = λ words by.
       let asked = option_map job_of c.args.job.now in
-      subst (IsOutcome words (g.D.Desk.bytes c.args.desk.now) (certificate_name asked)) (sym c.plain.ensures)
+      subst (IsOutcome words (g.D.Desk.state c.args.desk.now).files (certificate_name asked)) (sym c.plain.ensures)
       (outcome_of_none words _ asked (ap (option_map job_of) c.in-None.is) by);
   reads = λ words by. (inl refl, inl refl);
   kept = ended_keeps _ _ _ refl refl tt;

@@ -8,7 +8,7 @@ use Rattle.tv_core.proofs.running.run_job.Goals as goal
 
 pub returns-in-Ok : goal.returns-in-Ok
 returns-in-Ok g c = λ words asked.
-    let files = g.D.Desk.bytes c.args.desk.now in
+    let files = (g.D.Desk.state c.args.desk.now).files in
     let name = c.name_of.result.now in
     let decision = decision_of c.in-Ok.decision in
     let outcome : IsOutcome words files name decision = subst (λ n. IsOutcome words files n decision) (sym c.name_of.ensures) (c.in-Ok.ensures.exact words asked) in

@@ -13,7 +13,7 @@ list-requires c = ap (λ (l : List Entry). length l) c.as_slice.ensures.value �
 pub returns : goal.returns
 returns c = λ q functions entries conventions graphs.
     c.list.ensures q functions (subst (λ (l : List Entry). AreEntries q functions l) (sym c.as_slice.ensures.value) entries) conventions (record {
-      code_are = ap (λ (l : List code.Graph). graphs_of l) c.as_slice-code.ensures.value ∙ graphs.code_are;
+      code_are = graphs.code_are;
       sources_are = ap (λ (l : List code.Graph). graphs_of l) c.as_slice-source.ensures.value ∙ graphs.sources_are;
       runs_are = ap (λ (l : List run.Run). runs_of l) c.as_slice-runs.ensures.value ∙ graphs.runs_are;
     })

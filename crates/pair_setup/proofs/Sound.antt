@@ -1,8 +1,9 @@
--- What is reached from listed functions has a graph: it has no fault, all that it calls is reached, and it isn't too large.
-use Rattle.std.proofs.Common.{◌≡◌, ◌⊎◌, ◌∙◌, ℕ, ◌+◌, ◌-◌, ◌%◌, ◌^◌, ◌==◌, ◌&&◌, not, Bool, true, false, List, All, get_or, Some, None, refl, sym, ap₂, subst, inl, inr, arith}
-use Rattle.std.specs.Prelude.{Contains, IsSome, nat_le, nat_lt, if◌then◌else◌}
+-- What is reached from listed functions has a graph: it has no fault, and all that it calls is reached.
+use Rattle.std.proofs.Common.{◌≡◌, ◌⊎◌, ◌∙◌, ℕ, ◌+◌, ◌-◌, ◌%◌, ◌==◌, ◌&&◌, not, Bool, true, false, List, All, get_or, Some, None, refl, sym, ap₂, subst, inl, inr, arith}
+use Rattle.std.specs.Prelude.{Contains, IsPermutation, IsSome, nat_le, nat_lt, if◌then◌else◌}
 use Rattle.std.proofs.lemmas.Bool.{le-leb, lt-ltb}
 use Rattle.std.proofs.lemmas.List.Elements.{All-contains, Contains-get_or}
+use Rattle.std.proofs.lemmas.List.Sorted.{All-permutation, Contains-permutation}
 use Rattle.elf_read_spec.specs.Image.{Image, size_at}
 use Rattle.elf_read_spec.specs.declared.SymbolValues.TheVariants.{One}
 use Rattle.code_reach_spec.specs.Code.{CallsOn, Flow, Falls, Branches, Jumps, Calls, Links, Returns, Stops, InRange, IsReachable, call, tail, further, flow_at}
@@ -11,19 +12,18 @@ use Rattle.code_reach_spec.proofs.First.{each_without}
 use Rattle.decompile_spec.specs.Blocks.{callee_of, leaves_range}
 use Rattle.decompile_spec.specs.CodeGraph.{IsCall}
 use Rattle.decompile_laws.proofs.Reached.{calls_function, jumps_inside}
-use Rattle.decompile_laws.specs.Layout.{numbers_by}
-use Rattle.decompile.specs.Answer.{first_in, number_in}
 use Rattle.decompile.specs.Errors.{IsGraphError}
 use Rattle.attempt.specs.declared.refusal.Refusal.{Refusal}
 use Rattle.attempt.specs.declared.refusal.Refusal.TheVariants.{Fault, NoMemory}
 use Rattle.decompile.specs.declared.error.GraphFault.{GraphFault}
 use Rattle.decompile.specs.declared.error.GraphFault.TheVariants.{Code, Unlisted, Large}
 use Rattle.c_types_spec.specs.Core.{Typed}
-use Rattle.pair_setup_spec.specs.Nodes.{HasLargeGraph, in_code}
-use Rattle.pair_setup_spec.specs.Outcome as outcome
-use Rattle.pair_setup_spec.specs.Outcome.{IsPaired, IsReached}
-use Rattle.cert_run.specs.Made.{IsSound}
-use Rattle.cert_run.proofs.Ready.{listed_size}
+use Rattle.pair_setup_spec.specs.Code.{IsSoundCode}
+use Rattle.pair_setup_spec.specs.Outcome.{IsReached}
+use Rattle.pair_setup.specs.Answers.{AreChecked}
+use Rattle.pair_setup.specs.Graphs.{IsSound}
+use Rattle.pair_setup.specs.declared.outcome.Function.{Function}
+use Rattle.pair_setup.proofs.Outcomes.{entry-sized}
 
 -- ---- a call
 
@@ -68,29 +68,29 @@ called_on : (image : Image) (entry size : ℕ) → HasNoFault image entry size �
     → CallsOn image entry size callee
 called_on image entry size sound address callee is = by_flow image entry size sound address callee is.reached is.flow is.flow_is is.calls
 
--- ---- the entries of pairs
+-- ---- the entries of a list without faults
 
-module _ (image : Image) (unit : Typed) (list : List (List ℕ)) (pairs : outcome.Pairs) (paired : IsPaired image unit list pairs) where
-  sound_reached : (entry : ℕ) → IsReached image list entry → IsSound image pairs.entries entry
+module _ (image : Image) (unit : Typed) (names list : List (List ℕ)) (functions : List Function) (numbers entries : List ℕ)
+    (c : AreChecked image unit names list functions numbers entries) where
+  sound_reached : (entry : ℕ) → IsReached image list entry → IsSound image entries entry
   sound_reached entry is = record {
-    sized = listed_size image unit list pairs paired entry is;
+    sized = entry-sized image list entry is;
     no_fault = no_fault;
     closed = closed;
-    small = λ large. All-contains (λ (n : List ℕ). HasLargeGraph image unit n → ⊥) list is.listed paired.no_large is.is_listed (in_code is.from entry is.from_is is.reached large);
   }
     where
       code_sound : ReachesNoFault image is.from
       code_sound =
-          let code = (All-contains (outcome.HasNoFault image unit) list is.listed paired.no_fault is.is_listed).code in
+          let code = All-contains (IsSoundCode image) list is.listed c.code_is is.is_listed in
           let same : code.0 ≡ is.from = (let both : One code.0 ≡ One is.from = sym code.1.named ∙ is.from_is in cc) in
           subst (λ (e : ℕ). ReachesNoFault image e) same code.1.sound
 
       no_fault : (size : ℕ) → size_at image entry ≡ Some size → HasNoFault image entry size
       no_fault size size_is = each_without image is.from entry size code_sound is.reached size_is
 
-      closed : (size address callee : ℕ) → size_at image entry ≡ Some size → IsCall image entry size address callee → Contains pairs.entries callee
+      closed : (size address callee : ℕ) → size_at image entry ≡ Some size → IsCall image entry size address callee → Contains entries callee
       closed size address callee size_is calls =
-          (paired.entries_are callee).1 (record {
+          (c.entries_are callee).1 (record {
             listed = is.listed;
             is_listed = is.is_listed;
             from = is.from;
@@ -98,26 +98,31 @@ module _ (image : Image) (unit : Typed) (list : List (List ℕ)) (pairs : outcom
             reached = further entry size callee is.reached size_is (called_on image entry size (no_fault size size_is) address callee calls);
           })
 
-  pub sound_entries : All (IsSound image pairs.entries) pairs.entries
-  sound_entries k d h = sound_reached (get_or pairs.entries k d) ((paired.entries_are (get_or pairs.entries k d)).0 (Contains-get_or pairs.entries k d h))
+  pub sound_entries : All (IsSound image entries) entries
+  sound_entries k d h = sound_reached (get_or entries k d) ((c.entries_are (get_or entries k d)).0 (Contains-get_or entries k d h))
+
+-- of the same entries in another order
+pub sound_moved : (image : Image) (old new : List ℕ) → IsPermutation old new → All (IsSound image old) old → All (IsSound image new) new
+sound_moved image old new moved all = All-permutation (IsSound image new) old new moved (λ k d h.
+    let sound = all k d h in
+    record {
+      sized = sound.sized;
+      no_fault = sound.no_fault;
+      closed = λ size address callee size_is calls. Contains-permutation old new callee moved (sound.closed size address callee size_is calls);
+    })
 
 -- ---- what decompilation answers
 
--- it lacks memory alone
-pub only_memory : (image : Image) (entry : ℕ) (entries : List ℕ) (error : Refusal GraphFault) → IsSound image entries entry
-    → IsGraphError image entry entries (2 ^ 64 - 1) error → error ≡ NoMemory
-only_memory image entry entries (Fault (Code fault)) sound is = absurd (sound.no_fault is.size is.size_is fault.kind fault.address is.first.fault)
-only_memory image entry entries (Fault (Unlisted address callee)) sound is = absurd (is.missing (sound.closed is.size address callee is.size_is is.calls))
-only_memory image entry entries (Fault (Large count)) sound is =
-    let graph = is.graph_is in
-    absurd (sound.small (record {
-      size = graph.size;
-      size_is = graph.size_is;
-      runs = graph.runs;
-      graph_number = number_in entries;
-      node_number = numbers_by (first_in is.firsts);
-      graph = is.graph;
-      graph_is = graph.graph_is;
-      above = omega (arith, is.nodes, is.above);
-    }))
-only_memory image entry entries NoMemory sound is = refl
+-- its graph is too large, or it lacks memory
+abbrev pub IsOfSound : Refusal GraphFault → Type 0
+IsOfSound (Fault (Code fault)) = ⊥
+IsOfSound (Fault (Unlisted address callee)) = ⊥
+IsOfSound (Fault (Large count)) = Unit {0}
+IsOfSound NoMemory = Unit {0}
+
+pub of_sound : (image : Image) (entry : ℕ) (entries : List ℕ) (maximum : ℕ) (error : Refusal GraphFault) → IsSound image entries entry
+    → IsGraphError image entry entries maximum error → IsOfSound error
+of_sound image entry entries maximum (Fault (Code fault)) sound is = sound.no_fault is.size is.size_is fault.kind fault.address is.first.fault
+of_sound image entry entries maximum (Fault (Unlisted address callee)) sound is = is.missing (sound.closed is.size address callee is.size_is is.calls)
+of_sound image entry entries maximum (Fault (Large count)) sound is = tt
+of_sound image entry entries maximum NoMemory sound is = tt

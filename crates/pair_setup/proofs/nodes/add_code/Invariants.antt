@@ -1,0 +1,13 @@
+use Rattle.std.proofs.Common.{List, ℕ}
+use Rattle.graph_core.specs.Graphs.{graphs_of}
+use Rattle.call_graph.proofs.Cycles.{NoneBelow}
+use Rattle.pair_setup_spec.specs.Nodes.{IsLargeCode}
+use Rattle.pair_setup.specs.Graphs.{AreCodeOf}
+use Rattle.pair_setup.proofs.nodes.add_code.Given as goal
+
+-- the graphs so far, none of which is too large
+abbrev pub invariant-loop-index : goal.invariant-loop-index
+invariant-loop-index l = record {
+  coded : AreCodeOf l.image l.entries l.index (graphs_of l.graphs.items);
+  none : NoneBelow (IsLargeCode l.image) l.entries l.index;
+}
