@@ -1,4 +1,4 @@
-ghost use Rattle.std.specs.Prelude.{◌≡◌, ◌+◌, ◌++◌, ◌∷◌, [], true, IfOk, OnOk};
+ghost use Rattle.std.specs.Prelude.{◌≡◌, ◌+◌, ◌++◌, ◌∷◌, [], true, ◌≤◌, IfErr, IfOk, OnOk};
 ghost use Rattle.clause_check_spec.specs.Clause.{are_of};
 ghost use Rattle.bit_blast_spec.specs.Gates as build;
 ghost use Rattle.bit_blast_spec.specs.Circuits as circuits;
@@ -52,11 +52,12 @@ impl Gates {
         Cnf::from_clauses(self.variables, self.clauses)
     }
 
-    /// The literal of a new variable. That there are no more numbers counts as out of memory.
+    /// The literal of a new variable. It is out of memory only where there are no more numbers.
     pub(crate) fn fresh(&mut self) -> Result<Literal, AllocError>
         ensures new { IfOk result (λ o. o ≡ build.literal_of (self.old.variables + 1)) }
         ensures added { OnOk result (self.new
             ≡ record self.old { variables = self.old.variables + 1 }) }
+        ensures full { IfErr result (λ _. MAX_VARIABLE ≤ self.old.variables) }
     {
         if self.variables >= MAX_VARIABLE {
             return Err(AllocError);

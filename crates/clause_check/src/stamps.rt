@@ -1,5 +1,5 @@
-ghost use Rattle.std.specs.Prelude.{◌≡◌, ◌-◌, ◌<◌, ◌≤◌, length, replicate, not, true, None, Some};
-ghost use Rattle.std.specs.Prelude.{is_some, IfOk, slice_set, All};
+ghost use Rattle.std.specs.Prelude.{◌≡◌, ◌-◌, ◌*◌, ◌^◌, ◌<◌, ◌≤◌, length, replicate, not, true};
+ghost use Rattle.std.specs.Prelude.{None, Some, is_some, IfOk, MatchResult, slice_set, All};
 ghost use Rattle.clause_check_spec.specs.Clause.{is_of};
 ghost use Rattle.clause_check.specs.Signs.{is_sign, sign_of};
 
@@ -28,14 +28,23 @@ impl Model for Stamps {
     ghost invariant = { λ s. AreStamps s.round s.stamps.items };
 }
 
+/// How many stamps so many variables have; out of memory exactly where no `usize` holds it.
+fn count_of(variables: usize) -> Result<usize, AllocError>
+    ensures { MatchResult result (λ count. count ≡ variables * 2)
+        (λ _. 2 ^ 64 ≤ variables * 2) }
+{
+    match variables.checked_mul(2) {
+        Some(count) => Ok(count),
+        None => Err(AllocError),
+    }
+}
+
 impl Stamps {
     /// For so many variables, without true literals.
     pub fn new(alloc: Global, variables: usize) -> Result<Stamps, AllocError>
         ensures { IfOk result (λ stamps. stamps ≡ replicate variables None) }
     {
-        let Some(count) = variables.checked_mul(2) else {
-            return Err(AllocError);
-        };
+        let count = count_of(variables)?;
         let stamps = vec![in alloc; 0u32; count]?;
         Ok(Stamps { round: 1, stamps })
     }

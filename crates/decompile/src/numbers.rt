@@ -1,6 +1,7 @@
 //! The numbers of nodes: which is the first of each instruction.
 
-ghost use Rattle.std.specs.Prelude.{◌≡◌, ◌+◌, ◌<◌, ◌≤◌, [], map, IfOk, IfErr, OnOk};
+ghost use Rattle.std.specs.Prelude.{◌≡◌, ◌+◌, ◌^◌, ◌<◌, ◌≤◌, [], map};
+ghost use Rattle.std.specs.Prelude.{IfOk, IfErr, MatchResult, OnOk};
 ghost use Rattle.std.specs.List.Sorted.{IsStrictlyIncreasing};
 ghost use Rattle.decompile.specs.Items.{item_of};
 ghost use Rattle.decompile.specs.Counts as spec;
@@ -16,10 +17,10 @@ use indexmap::IndexMap;
 use rv_instr::{Instr, LoadKind, StoreKind};
 use std::alloc::{AllocError, Global};
 
-/// The sum, if there is such a number of a node: as many nodes as there are no numbers for don't
-/// fit into memory.
+/// The sum; out of memory exactly where no `usize` holds it: so many nodes don't fit into memory.
 pub(crate) fn plus(first: usize, second: usize) -> Result<usize, AllocError>
-    ensures { IfOk result (λ sum. sum ≡ first + second) }
+    ensures { MatchResult result (λ sum. sum ≡ first + second)
+        (λ _. 2 ^ 64 ≤ first + second) }
 {
     match first.checked_add(second) {
         Some(sum) => Ok(sum),

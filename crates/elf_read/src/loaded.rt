@@ -97,6 +97,13 @@ impl<'a> Image<'a> {
         self.segments.get(i)
     }
 
+    /// How many defined symbols there are.
+    pub fn symbol_count(&self) -> usize
+        ensures { result ≡ length self.now.symbols }
+    {
+        self.symbols.len()
+    }
+
     /// The symbol at an index among the defined ones, in the order of their table.
     pub fn symbol(&self, i: usize) -> Option<&Symbol<'a>>
         ensures { option_map (λ s. symbol_of s.now) result ≡ slice_get self.now.symbols i }

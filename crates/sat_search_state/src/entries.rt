@@ -1,4 +1,5 @@
-ghost use Rattle.std.specs.Prelude.{◌≡◌, ◌+◌, ◌-◌, ◌*◌, ◌<◌, ◌≤◌, ◌++◌, ◌∷◌, [], length, take};
+ghost use Rattle.std.specs.Prelude.{◌≡◌, ◌+◌, ◌-◌, ◌*◌, ◌^◌, ◌<◌, ◌≤◌, ◌++◌, ◌∷◌, []};
+ghost use Rattle.std.specs.Prelude.{MatchResult, length, take};
 ghost use Rattle.std.specs.Prelude.{true, false};
 ghost use Rattle.std.specs.Prelude.{◌↔◌, slice_get, Some, IfSome, IfNone, IfOk, OnOk, IsTrue};
 ghost use Rattle.clause_check_spec.specs.Clause.{is_of, negation as negated};
@@ -10,9 +11,11 @@ use sat_search_spec::Entry;
 use std::alloc::{AllocError, Global};
 use std::marker::Model;
 
-/// How many codes the literals of so many variables take.
+/// How many codes the literals of so many variables take; out of memory exactly where no `usize`
+/// holds it.
 fn codes_of(variables: usize) -> Result<usize, AllocError>
-    ensures { IfOk result (λ codes. codes ≡ 2 * variables + 2) }
+    ensures { MatchResult result (λ codes. codes ≡ 2 * variables + 2)
+        (λ _. 2 ^ 64 ≤ 2 * variables + 2) }
 {
     if variables < usize::MAX / 2 {
         Ok(2 * variables + 2)
@@ -137,9 +140,11 @@ impl Trail {
         Ok(())
     }
 
-    /// One more level.
+    /// One more level; out of memory exactly where no `usize` holds its number.
     pub fn open_level(&mut self) -> Result<(), AllocError>
-        ensures { OnOk result (self.new ≡ record self.old { level = self.old.level + 1 }) }
+        ensures { MatchResult result
+            (λ _. self.new ≡ record self.old { level = self.old.level + 1 })
+            (λ _. 2 ^ 64 ≤ self.old.level + 1) }
     {
         match self.level.checked_add(1) {
             Some(level) => {

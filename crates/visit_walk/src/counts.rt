@@ -1,6 +1,6 @@
 //! Counts of arrivals at marked nodes, each vector of counts kept once.
 
-ghost use Rattle.std.specs.Prelude.{◌≡◌, ◌<◌, ◌==◌, length, IfOk, OnOk};
+ghost use Rattle.std.specs.Prelude.{◌≡◌, ◌+◌, ◌^◌, ◌<◌, ◌≤◌, ◌==◌, length, IfOk, MatchResult, OnOk};
 ghost use Rattle.std.specs.Prelude.{suc, [], drop, replicate, if◌then◌else◌};
 ghost use Rattle.std.specs.List.{list_any};
 ghost use Rattle.graph_core_spec.specs.declared.Next.TheVariants as next;
@@ -75,7 +75,8 @@ pub(crate) fn is_marked(marks: &[Mark], node: usize) -> bool
 
 /// The count of a mark after one more arrival at a node.
 fn next_count(mark: &Mark, count: usize, node: usize) -> Result<usize, AllocError>
-    ensures { IfOk result (λ next. next ≡ (if mark.now.node == node then suc count else count)) }
+    ensures { MatchResult result (λ next. next
+        ≡ (if mark.now.node == node then suc count else count)) (λ _. 2 ^ 64 ≤ count + 1) }
 {
     if mark.node != node {
         return Ok(count);
