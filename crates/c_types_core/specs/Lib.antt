@@ -1,3 +1,4 @@
 pub mod Expressions
 pub mod Widths
 pub mod Actions
+pub mod Counted

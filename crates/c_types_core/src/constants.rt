@@ -4,7 +4,7 @@ ghost use Rattle.std.specs.Prelude.{◌≡◌, ◌↔◌, IfOk, IsTrue, option_m
 ghost use Rattle.c_types_spec.specs.Values as rule;
 ghost use Rattle.c_types_spec.specs.Core as tree;
 ghost use Rattle.c_types_core.specs.Expressions.{core_of};
-ghost use Rattle.c_types_core.specs.Widths.{HasWidth};
+ghost use Rattle.c_types_core.specs.Widths.{HasWidth, IsConverted, IsOperated};
 
 use crate::expression::Core;
 use crate::values::{TooWide, arithmetic_value, comparison_value, convert};
@@ -45,17 +45,40 @@ pub fn has_width(of: Scalar) -> bool
     0 < of.width && of.width <= 64
 }
 
-/// A constant in another type.
-fn converted(of: Scalar, value: Option<i128>) -> Result<Option<i128>, TooWide>
-    ensures { IfOk result (λ r. r ≡ option_map (λ v. rule.converted of v) value) }
+/// A value in another type, exactly where the program computes with that.
+pub fn value_in(of: Scalar, value: i128) -> Result<i128, TooWide>
+    ensures { IsConverted of value result }
 {
     if !has_width(of) {
         return Err(TooWide);
     }
+    Ok(convert(value, of))
+}
+
+/// A constant in another type.
+fn converted(of: Scalar, value: Option<i128>) -> Result<Option<i128>, TooWide>
+    ensures { IfOk result (λ r. r ≡ option_map (λ v. rule.converted of v) value) }
+{
     match value {
-        Some(value) => Ok(Some(convert(value, of))),
+        Some(value) => Ok(Some(attempt!(value_in(of, value)))),
         None => Ok(None),
     }
+}
+
+/// The value of an operator on two values, exactly where the program computes with the type and the
+/// number that it takes.
+pub fn operator_value(
+    operator: Arithmetic,
+    of: Scalar,
+    left: i128,
+    right: i128,
+) -> Result<Option<i128>, TooWide>
+    ensures { IsOperated operator of left right result }
+{
+    if !has_width(of) {
+        return Err(TooWide);
+    }
+    arithmetic_value(operator, of, left, right)
 }
 
 /// An operator on constants.
@@ -68,11 +91,8 @@ fn operated(
     ensures { IfOk result (λ r. r ≡ tree.with_both left right (λ a b. rule.arithmetic_value
         operator of a b)) }
 {
-    if !has_width(of) {
-        return Err(TooWide);
-    }
     match (left, right) {
-        (Some(a), Some(b)) => arithmetic_value(operator, of, a, b),
+        (Some(a), Some(b)) => operator_value(operator, of, a, b),
         _ => Ok(None),
     }
 }

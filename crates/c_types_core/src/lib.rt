@@ -5,6 +5,7 @@
 
 pub mod action;
 pub mod constants;
+pub mod counts;
 pub mod expression;
 pub mod fault;
 pub mod values;

@@ -1,9 +1,9 @@
 //! Values of scalar types (6.3.1.3, 6.5): a value is an `i128`, and a type has from 1 to 64 bits.
 
-ghost use Rattle.std.specs.Prelude.{◌≡◌, ◌≤◌, ◌<◌, ◌^◌, IfOk, pos};
+ghost use Rattle.std.specs.Prelude.{◌≡◌, ◌≤◌, ◌<◌, ◌^◌, pos};
 ghost use Rattle.c_types_spec.specs.Values as rule;
 ghost use Rattle.c_types_spec.specs.declared.Arithmetic.TheVariants as arithmetic;
-ghost use Rattle.c_types_core.specs.Widths.{HasWidth};
+ghost use Rattle.c_types_core.specs.Widths.{Computes, HasWidth, IsWhere};
 
 use attempt::attempt;
 use c_types_spec::{Arithmetic, Comparison, Scalar};
@@ -21,7 +21,7 @@ fn power(exponent: u32) -> i128
 }
 
 /// The low bits of a value in two's complement.
-fn bits_of(width: u32, value: i128) -> u64
+pub fn bits_of(width: u32, value: i128) -> u64
     requires low { 0 < width }
     requires high { width ≤ 64 }
     ensures { result ≡ rule.bits_of width value }
@@ -73,7 +73,8 @@ fn computed(of: Scalar, value: i128) -> Option<i128>
 #[tactic(auto, unfolding(c_types_spec::specs::Values::arithmetic_value))]
 fn sum(of: Scalar, left: i128, right: i128) -> Result<Option<i128>, TooWide>
     requires { HasWidth of }
-    ensures { IfOk result (λ r. r ≡ rule.arithmetic_value arithmetic.Add of left right) }
+    ensures { IsWhere (Computes arithmetic.Add left right)
+        (rule.arithmetic_value arithmetic.Add of left right) result }
 {
     match left.checked_add(right) {
         Some(value) => Ok(computed(of, value)),
@@ -84,7 +85,8 @@ fn sum(of: Scalar, left: i128, right: i128) -> Result<Option<i128>, TooWide>
 #[tactic(auto, unfolding(c_types_spec::specs::Values::arithmetic_value))]
 fn difference(of: Scalar, left: i128, right: i128) -> Result<Option<i128>, TooWide>
     requires { HasWidth of }
-    ensures { IfOk result (λ r. r ≡ rule.arithmetic_value arithmetic.Subtract of left right) }
+    ensures { IsWhere (Computes arithmetic.Subtract left right)
+        (rule.arithmetic_value arithmetic.Subtract of left right) result }
 {
     match left.checked_sub(right) {
         Some(value) => Ok(computed(of, value)),
@@ -95,7 +97,8 @@ fn difference(of: Scalar, left: i128, right: i128) -> Result<Option<i128>, TooWi
 #[tactic(auto, unfolding(c_types_spec::specs::Values::arithmetic_value))]
 fn product(of: Scalar, left: i128, right: i128) -> Result<Option<i128>, TooWide>
     requires { HasWidth of }
-    ensures { IfOk result (λ r. r ≡ rule.arithmetic_value arithmetic.Multiply of left right) }
+    ensures { IsWhere (Computes arithmetic.Multiply left right)
+        (rule.arithmetic_value arithmetic.Multiply of left right) result }
 {
     match left.checked_mul(right) {
         Some(value) => Ok(computed(of, value)),
@@ -106,7 +109,8 @@ fn product(of: Scalar, left: i128, right: i128) -> Result<Option<i128>, TooWide>
 /// The divisor is not 0, and the quotient is one of the type.
 fn can_divide(of: Scalar, left: i128, right: i128) -> Result<bool, TooWide>
     requires { HasWidth of }
-    ensures { IfOk result (λ b. b ≡ rule.can_divide of left right) }
+    ensures { IsWhere (Computes arithmetic.Divide left right)
+        (rule.can_divide of left right) result }
 {
     if right == 0 {
         return Ok(false);
@@ -120,7 +124,8 @@ fn can_divide(of: Scalar, left: i128, right: i128) -> Result<bool, TooWide>
 #[tactic(auto, unfolding(c_types_spec::specs::Values::arithmetic_value))]
 fn quotient(of: Scalar, left: i128, right: i128) -> Result<Option<i128>, TooWide>
     requires { HasWidth of }
-    ensures { IfOk result (λ r. r ≡ rule.arithmetic_value arithmetic.Divide of left right) }
+    ensures { IsWhere (Computes arithmetic.Divide left right)
+        (rule.arithmetic_value arithmetic.Divide of left right) result }
 {
     if attempt!(can_divide(of, left, right)) {
         match left.checked_div(right) {
@@ -135,7 +140,8 @@ fn quotient(of: Scalar, left: i128, right: i128) -> Result<Option<i128>, TooWide
 #[tactic(auto, unfolding(c_types_spec::specs::Values::arithmetic_value))]
 fn remainder(of: Scalar, left: i128, right: i128) -> Result<Option<i128>, TooWide>
     requires { HasWidth of }
-    ensures { IfOk result (λ r. r ≡ rule.arithmetic_value arithmetic.Remainder of left right) }
+    ensures { IsWhere (Computes arithmetic.Remainder left right)
+        (rule.arithmetic_value arithmetic.Remainder of left right) result }
 {
     if attempt!(can_divide(of, left, right)) {
         match left.checked_rem(right) {
@@ -150,7 +156,8 @@ fn remainder(of: Scalar, left: i128, right: i128) -> Result<Option<i128>, TooWid
 #[tactic(auto, unfolding(c_types_spec::specs::Values::arithmetic_value))]
 fn shifted_left(of: Scalar, left: i128, right: i128) -> Result<Option<i128>, TooWide>
     requires { HasWidth of }
-    ensures { IfOk result (λ r. r ≡ rule.arithmetic_value arithmetic.ShiftLeft of left right) }
+    ensures { IsWhere (Computes arithmetic.ShiftLeft left right)
+        (rule.arithmetic_value arithmetic.ShiftLeft of left right) result }
 {
     if right < 0 || right >= of.width as i128 {
         return Ok(None);
@@ -200,7 +207,8 @@ fn bitwise_xor(of: Scalar, left: i128, right: i128) -> i128
 }
 
 /// The value of an operator on two values of a type, or none where a guard is broken (6.5). The
-/// right operand of a shift has a type of its own.
+/// right operand of a shift has a type of its own. It is too wide exactly where the number that is
+/// computed with has more than 128 bits.
 #[tactic(auto, unfolding(c_types_spec::specs::Values::arithmetic_value))]
 pub fn arithmetic_value(
     operator: Arithmetic,
@@ -209,7 +217,8 @@ pub fn arithmetic_value(
     right: i128,
 ) -> Result<Option<i128>, TooWide>
     requires { HasWidth of }
-    ensures { IfOk result (λ r. r ≡ rule.arithmetic_value operator of left right) }
+    ensures { IsWhere (Computes operator left right)
+        (rule.arithmetic_value operator of left right) result }
 {
     match operator {
         Arithmetic::Add => sum(of, left, right),

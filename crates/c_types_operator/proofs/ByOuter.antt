@@ -1,5 +1,5 @@
 -- Operators by what the types of their operands are from outside.
-use Rattle.std.proofs.Common.{◌≡◌, ℕ, ◌<◌, min, refl, arith}
+use Rattle.std.proofs.Common.{◌≡◌, ℕ, ◌<◌, ◌≤◌, min, refl, arith}
 use Rattle.std.specs.Prelude.{Option, Some, None}
 use Rattle.c_types_spec.specs.declared.TheConstants.{SIZE_LIMIT}
 use Rattle.c_types_spec.specs.Types as tree
@@ -11,7 +11,7 @@ use Rattle.c_types_spec.specs.declared.Comparison.{Comparison}
 use Rattle.c_types_spec.specs.Core.{Core}
 use Rattle.c_types_layout.specs.Types.{outer_of, target_of}
 use Rattle.c_types_layout.specs.Structs.{capped}
-use Rattle.c_types_operator.specs.ByOuter.{sum_by, difference_by, subscript_by, pointed_by, bound_by, relation_by, equality_by}
+use Rattle.c_types_operator.specs.ByOuter.{IsLarge, sum_by, difference_by, subscript_by, pointed_by, bound_by, relation_by, equality_by}
 
 pub sum-outer : (structs : tree.Structs) (a b : Valued) (offset : ℕ) (s t : tree.CType) → sum_of structs a b offset (addend s) (addend t) ≡ sum_by structs a b offset s t (outer_of s) (outer_of t)
 sum-outer structs a b offset tree.Void tree.Void = refl
@@ -160,6 +160,10 @@ pub exact-size : (size : Option ℕ) (n : ℕ) → capped size ≡ Some n → n 
 exact-size None n e h = absurd cc
 exact-size (Some s) n e h = let same : min s SIZE_LIMIT ≡ n = cc in let k : s ≡ n = omega arith in cc
 
+pub large-size : (size : Option ℕ) (n : ℕ) → capped size ≡ Some n → SIZE_LIMIT ≤ n → IsLarge size
+large-size None n e h = absurd cc
+large-size (Some s) n e h = let same : min s SIZE_LIMIT ≡ n = cc in omega arith
+
 pub no-size : (size : Option ℕ) → capped size ≡ None → size ≡ None
 no-size None e = refl
 no-size (Some s) e = absurd cc
@@ -195,7 +199,7 @@ pub ruleset pointing = (pointed-target)
 
 pub ruleset bounding = (bound-outer)
 
-pub ruleset sized = (exact-size, no-size)
+pub ruleset sized = (exact-size, large-size, no-size)
 
 pub ruleset summing = (sum-outer)
 

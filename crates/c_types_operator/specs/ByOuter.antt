@@ -1,5 +1,6 @@
 -- Operators on pointers and integers, by what the types of their operands are from outside.
-use Rattle.std.specs.Prelude.{ℕ, suc, ◌||◌, Bool, if◌then◌else◌, Option, Some, None, Result, Ok}
+use Rattle.std.specs.Prelude.{ℕ, suc, ◌≤◌, ◌||◌, Bool, if◌then◌else◌, Option, Some, None, Result, Ok}
+use Rattle.c_types_spec.specs.declared.TheConstants.{SIZE_LIMIT}
 use Rattle.c_types_spec.specs.declared.Arithmetic.TheVariants.{Add, Subtract}
 use Rattle.c_types_spec.specs.declared.Comparison.{Comparison}
 use Rattle.c_types_spec.specs.declared.Direction.{Direction}
@@ -24,6 +25,11 @@ use Rattle.c_types_operator.specs.Conversions.{pointers_agree}
 -- the size of a type, which is needed
 abbrev pub size_of_needed : ctype.Structs → ctype.CType → (offset : ℕ) → Result ℕ Fault
 size_of_needed structs type offset = elim (ctype.size_of structs type) [ Some size ↦ Ok size | None ↦ fail Incomplete offset ]
+
+-- a size from the limit of sizes on
+abbrev pub IsLarge : Option ℕ → Type 0
+IsLarge None = ⊥
+IsLarge (Some size) = SIZE_LIMIT ≤ size
 
 -- a pointer of a type that is moved
 abbrev pub moved_pointer : ctype.Structs → Direction → Order → ctype.CType → (pointer index : Core) → (offset : ℕ) → Result Operand Fault

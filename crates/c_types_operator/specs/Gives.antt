@@ -10,3 +10,9 @@ abbrev pub Gives : {A B : Type 0} → (view : A → B) → Result A (Refusal Typ
 Gives view (Ok x) given = given ≡ Ok (view x)
 Gives view (Err refusal.NoMemory) given = Unit {0}
 Gives view (Err (refusal.Fault (At kind offset))) given = given ≡ Err (kind, offset)
+
+-- the same, where memory is refused only for what is large
+abbrev pub GivesUnless : {A B : Type 0} → (large : Type 0) → (view : A → B) → Result A (Refusal TypeFault) → Result B Fault → Type 0
+GivesUnless large view (Ok x) given = given ≡ Ok (view x)
+GivesUnless large view (Err refusal.NoMemory) given = large
+GivesUnless large view (Err (refusal.Fault (At kind offset))) given = given ≡ Err (kind, offset)

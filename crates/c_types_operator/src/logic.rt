@@ -10,10 +10,9 @@ use crate::comparison::compared;
 use crate::operand::{Operand, Valued, convert, core_or_memory};
 use crate::scalar::{both, integer_operand, kept, promoted};
 use attempt::{Refusal, attempt};
-use c_types_core::constants::{INT, has_width, type_of};
+use c_types_core::constants::{INT, type_of, value_in};
 use c_types_core::expression::Core;
 use c_types_core::fault::TypeFault;
-use c_types_core::values::convert as convert_value;
 use c_types_spec::{Arithmetic, Comparison, Scalar, TypeFaultKind};
 use std::alloc::Global;
 
@@ -131,10 +130,8 @@ pub fn minus<'a>(
 fn ones_of<'a>(alloc: Global, of: Scalar) -> Result<Box<Core<'a>>, Refusal<TypeFault>>
     ensures { Gives core_in result (Ok (operators.ones_of of)) }
 {
-    if !has_width(of) {
-        return Err(Refusal::NoMemory);
-    }
-    core_or_memory(Core::constant(alloc, of, convert_value(-1, of)))
+    let ones = attempt!(value_in(of, -1), Refusal::NoMemory);
+    core_or_memory(Core::constant(alloc, of, ones))
 }
 
 /// `~`: the operand with each bit changed

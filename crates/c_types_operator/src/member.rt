@@ -16,10 +16,10 @@ use crate::scalar::integer_operand;
 use crate::value::value_of;
 use attempt::{Refusal, attempt};
 use c_syntax_spec::UnaryOperator;
-use c_types_core::constants::has_width;
+use c_types_core::constants::value_in;
+use c_types_core::counts::sum;
 use c_types_core::expression::Core;
 use c_types_core::fault::TypeFault;
-use c_types_core::values::convert as convert_value;
 use c_types_layout::structs::{Definition, Layout, member_named, struct_layout};
 use c_types_layout::types::{CType, Outer, WORD};
 use c_types_spec::{Scalar, Standing, TypeFaultKind};
@@ -41,19 +41,15 @@ fn member_at<'a>(
 {
     match member_named(layout, name) {
         Some(placed) => {
+            let distance = placed.distance as usize;
+            let displacement = attempt!(sum(displacement, distance), Refusal::NoMemory);
             let of = attempt!(type_or_memory(placed.of.copy(alloc)));
-            match displacement.checked_add(placed.distance as usize) {
-                Some(sum) => Ok(Operand {
-                    category: Category::InMemory(address, sum),
-                    of,
-                    standing: Standing::Computed,
-                    offset,
-                }),
-                None => {
-                    drop(of);
-                    Err(Refusal::NoMemory)
-                }
-            }
+            Ok(Operand {
+                category: Category::InMemory(address, displacement),
+                of,
+                standing: Standing::Computed,
+                offset,
+            })
         }
         None => Err(Refusal::Fault(TypeFault::At(TypeFaultKind::Unknown, name_offset))),
     }
@@ -202,10 +198,8 @@ pub fn constant_operand<'a>(
 ) -> Result<Operand<'a>, Refusal<TypeFault>>
     ensures { Gives operand_of result (Ok (rule.constant_operand of value offset)) }
 {
-    if !has_width(of) {
-        return Err(Refusal::NoMemory);
-    }
-    let core = attempt!(core_or_memory(Core::constant(alloc, of, convert_value(value, of))));
+    let constant = attempt!(value_in(of, value), Refusal::NoMemory);
+    let core = attempt!(core_or_memory(Core::constant(alloc, of, constant)));
     Ok(integer_operand(alloc, core, of, Standing::ConstantExpression, offset))
 }
 

@@ -2,10 +2,11 @@
 
 ghost use Rattle.std.specs.Prelude.{◌≡◌, Ok};
 ghost use Rattle.c_types_spec.specs.Operators as operators;
+ghost use Rattle.c_types_spec.specs.Types as types;
 ghost use Rattle.c_types_layout.specs.Structs.{structs_of};
 ghost use Rattle.c_types_layout.specs.Types.{type_of as ctype_of};
-ghost use Rattle.c_types_operator.specs.ByOuter.{moved_pointer, size_of_needed};
-ghost use Rattle.c_types_operator.specs.Gives.{Gives};
+ghost use Rattle.c_types_operator.specs.ByOuter.{IsLarge, moved_pointer, size_of_needed};
+ghost use Rattle.c_types_operator.specs.Gives.{Gives, GivesUnless};
 ghost use Rattle.c_types_operator.specs.Operands.{core_in, operand_of, valued_of};
 
 use crate::arithmetic::arithmetic;
@@ -15,6 +16,7 @@ use crate::operand::{
 use crate::scalar::value_operand;
 use crate::value::value_of;
 use attempt::{Refusal, attempt};
+use c_types_core::counts::sum as sum_of_counts;
 use c_types_core::expression::Core;
 use c_types_core::fault::TypeFault;
 use c_types_layout::structs::{Definition, size};
@@ -24,15 +26,16 @@ use c_types_spec::{
 };
 use std::alloc::Global;
 
-/// The size of a type, which is needed.
+/// The size of a type, which is needed. It is out of memory exactly where the size is not below the
+/// limit, as no type of a unit is.
 #[tactic(auto, using(crate::proofs::ByOuter::sized))]
 pub(crate) fn size_needed(
     structs: &[Definition<'_>],
     of: &CType,
     offset: usize,
 ) -> Result<usize, Refusal<TypeFault>>
-    ensures { Gives (λ n. n) result (size_of_needed (structs_of structs.now) (ctype_of of.now)
-        offset) }
+    ensures { GivesUnless (IsLarge (types.size_of (structs_of structs.now) (ctype_of of.now)))
+        (λ n. n) result (size_of_needed (structs_of structs.now) (ctype_of of.now) offset) }
 {
     match size(structs, of) {
         Some(size) => {
@@ -274,9 +277,9 @@ pub fn bound_of(place: Position, x: &Operand<'_>) -> Result<Option<usize>, Refus
 {
     match x.of.outer() {
         Outer::Array(Some(length)) => match place {
-            Position::Addressed => match length.checked_add(1) {
-                Some(bound) => Ok(Some(bound as usize)),
-                None => Err(Refusal::NoMemory),
+            Position::Addressed => match sum_of_counts(length as usize, 1) {
+                Ok(bound) => Ok(Some(bound)),
+                Err(_) => Err(Refusal::NoMemory),
             },
             Position::Operand | Position::Statement => Ok(Some(length as usize)),
         },

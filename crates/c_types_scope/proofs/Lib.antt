@@ -8,3 +8,4 @@ pub mod Files
 pub mod Ranges
 pub mod Views
 pub mod Declaring
+pub mod Steps

@@ -11,6 +11,7 @@ ghost use Rattle.c_types_scope.specs.States.{state_of, nothing, Runs};
 use crate::meaning::{Meaning, Tag};
 use crate::scopes::Scopes;
 use attempt::{Refusal, attempt};
+use c_types_core::counts::sum;
 use c_types_core::fault::TypeFault;
 use c_types_layout::structs::Definition;
 use c_types_layout::types::CType;
@@ -239,13 +240,8 @@ impl<'a> State<'a> {
         ensures { Runs (λ n. n) result self.new (rule.new_loop (state_of self.old)) }
     {
         let number = self.loops;
-        match number.checked_add(1) {
-            Some(more) => {
-                self.loops = more;
-                Ok(number)
-            }
-            None => Err(Refusal::NoMemory),
-        }
+        self.loops = attempt!(sum(number, 1), Refusal::NoMemory);
+        Ok(number)
     }
 
     /// One more call, and its number.
@@ -253,13 +249,8 @@ impl<'a> State<'a> {
         ensures { Runs (λ n. n) result self.new (rule.new_call (state_of self.old)) }
     {
         let number = self.calls;
-        match number.checked_add(1) {
-            Some(more) => {
-                self.calls = more;
-                Ok(number)
-            }
-            None => Err(Refusal::NoMemory),
-        }
+        self.calls = attempt!(sum(number, 1), Refusal::NoMemory);
+        Ok(number)
     }
 
     /// One more global that is named.
