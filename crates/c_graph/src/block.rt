@@ -8,8 +8,9 @@ ghost use Rattle.c_graph_layout.specs.Lists.{block_of};
 ghost use Rattle.c_graph.specs.Laid.{AreFollowed, block_end};
 
 use attempt::attempt;
-use c_graph_layout::{Exits, entry, size, sum};
+use c_graph_layout::{Exits, entry, size};
 use c_types_core::action::Action;
+use c_types_core::counts::sum;
 use graph_core_spec::Next;
 use std::alloc::{AllocError, Global};
 

@@ -8,8 +8,9 @@ ghost use Rattle.c_graph_layout.specs.Lists.{groups_of};
 ghost use Rattle.c_graph.specs.Seen.{cases_in};
 
 use attempt::attempt;
-use c_graph_layout::{Exits, entry, size, sum};
+use c_graph_layout::{Exits, entry, size};
 use c_types_core::action::Group;
+use c_types_core::counts::sum;
 use graph_core_spec::Next;
 use std::alloc::{AllocError, Global};
 

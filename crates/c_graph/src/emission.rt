@@ -10,7 +10,8 @@ ghost use Rattle.c_graph.specs.Emitted.{Emits};
 
 use crate::imports::{add_mapped, add_node, import, mapped};
 use attempt::attempt;
-use c_graph_layout::{first, sum};
+use c_graph_layout::first;
+use c_types_core::counts::sum;
 use graph_core::{Graph, SharedNode};
 use graph_core_spec::Next;
 use std::alloc::{AllocError, Global};

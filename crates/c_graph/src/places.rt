@@ -9,8 +9,9 @@ ghost use Rattle.c_graph_layout.specs.Lists.{groups_of};
 ghost use Rattle.c_graph.specs.Laid.{AreBranches, AreCases, AreLoop, AreDo, AreStarts};
 
 use attempt::attempt;
-use c_graph_layout::{Exits, count, entry, first, otherwise, size, sum, with_cases};
+use c_graph_layout::{Exits, count, entry, first, otherwise, size, with_cases};
 use c_types_core::action::{Action, Group};
+use c_types_core::counts::sum;
 use c_types_core::expression::Core;
 use graph_core_spec::Next;
 use std::alloc::AllocError;

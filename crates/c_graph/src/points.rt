@@ -1,6 +1,7 @@
 //! The points of statements: the nodes of loops and calls.
 
-ghost use Rattle.std.specs.Prelude.{◌≡◌, ◌++◌, ◌∷◌, [], ℕ, List, Option, IfOk, OnOk};
+ghost use Rattle.std.specs.Prelude.{◌≡◌, ◌^◌, ◌≤◌, ◌++◌, ◌∷◌, [], ℕ, List, Option};
+ghost use Rattle.std.specs.Prelude.{MatchResult, OnOk};
 ghost use Rattle.c_types_spec.specs.Core as core;
 ghost use Rattle.c_types_spec.specs.declared.TestPlace.TheVariants.{After, Before};
 ghost use Rattle.c_types_core.specs.Expressions.{core_of};
@@ -12,8 +13,9 @@ ghost use Rattle.c_graph.specs.Seen.{loop_points, points_in};
 
 use crate::places::part_starts;
 use attempt::attempt;
-use c_graph_layout::{argument_count, count, size, sum, with_cases};
+use c_graph_layout::{argument_count, count, size, with_cases};
 use c_types_core::action::{Action, Group};
+use c_types_core::counts::sum;
 use c_types_core::expression::Core;
 use c_types_spec::TestPlace;
 use proof_tree_spec::Place;
@@ -30,7 +32,7 @@ pub struct Point {
 
 /// The number of a loop or a call; out of memory where it is more than a point can name.
 fn short(number: usize) -> Result<u32, AllocError>
-    ensures { IfOk result (λ n. n ≡ number) }
+    ensures { MatchResult result (λ n. n ≡ number) (λ _. 2 ^ 32 ≤ number) }
 {
     match u32::try_from(number) {
         Ok(n) => Ok(n),

@@ -21,8 +21,9 @@ use crate::simple::{
     call, evaluated, give_back, loop_test, missing_return, set, store_value, test, unset,
 };
 use attempt::attempt;
-use c_graph_layout::{Exits, size, sum};
+use c_graph_layout::{Exits, size};
 use c_types_core::action::{Action, Group};
+use c_types_core::counts::sum;
 use c_types_core::expression::Core;
 use c_types_spec::TestPlace;
 use graph_core::Graph;

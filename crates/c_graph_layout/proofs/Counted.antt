@@ -1,5 +1,6 @@
 -- Tests and nodes are as many as is counted.
-use Rattle.std.proofs.Common.{◌≡◌, ◌∙◌, ℕ, ◌+◌, suc, Bool, true, false, if◌then◌else◌, List, [], ◌∷◌, ◌++◌, length, map, Some, None, refl, ap, ap₂, arith, length-append}
+use Rattle.std.proofs.Common.{◌≡◌, ◌∙◌, ℕ, ◌+◌, suc, Result, Ok, Err, Bool, true, false, if◌then◌else◌, List, [], ◌∷◌, ◌++◌, length, map, Some, None, refl, ap, ap₂, arith, length-append}
+use Rattle.std.specs.Prelude.{IfOk}
 use Rattle.term_core_spec.specs.Term.{Term, not_term}
 use Rattle.c_types_spec.specs.declared.Scalar.{Scalar}
 use Rattle.c_types_spec.specs.declared.Arithmetic.{Arithmetic}
@@ -12,7 +13,17 @@ use Rattle.c_graph_spec.specs.Values.{Globals, Object, object, no_object, terms}
 use Rattle.c_graph_spec.specs.Guards.{tests, operator_tests, in_order, under, write_tests}
 use Rattle.c_graph_spec.specs.Layout.{Setting, argument_tests, case_count, store_tests, value_in}
 use Rattle.c_graph_spec.specs.Layout as spec
+use Rattle.c_types_core.specs.Counted.{IsCounted}
 use Rattle.c_graph_layout.specs.Counts.{test_count, operator_count, if_signed_count, argument_count, size_of, groups_size_of}
+
+-- a count of as many
+pub as_many : {E : Type 0} (n k : ℕ) (result : Result ℕ E) → n ≡ k → IsCounted n result → IsCounted k result
+as_many n k (Ok m) e counted = counted ∙ e
+as_many n k (Err error) e counted = omega (arith, e, counted)
+
+pub many_of : {E : Type 0} (n k : ℕ) (result : Result ℕ E) → n ≡ k → IsCounted n result → IfOk result (λ m. m ≡ k)
+many_of n k (Ok m) e counted = counted ∙ e
+many_of n k (Err error) e counted = tt
 
 length-map : {X Y : Type 0} (f : X → Y) (xs : List X) → length (map f xs) ≡ length xs
 length-map f [] = refl

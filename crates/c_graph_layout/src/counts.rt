@@ -3,6 +3,7 @@
 ghost use Rattle.std.specs.Prelude.{◌≡◌, ◌+◌, IfOk, if◌then◌else◌, is_some, length};
 ghost use Rattle.c_types_core.specs.Expressions.{core_of};
 ghost use Rattle.c_types_core.specs.Actions.{action_of, core_in};
+ghost use Rattle.c_types_core.specs.Counted.{IsCounted};
 ghost use Rattle.c_types_spec.specs.Core as tree;
 ghost use Rattle.graph_core_spec.specs.declared.Next.TheVariants as next;
 ghost use Rattle.c_graph_spec.specs.Layout as spec;
@@ -12,6 +13,7 @@ ghost use Rattle.c_graph_layout.specs.Lists.{block_of, cores_of, groups_of};
 
 use attempt::attempt;
 use c_types_core::action::{Action, Group};
+use c_types_core::counts::sum;
 use c_types_core::expression::Core;
 use c_types_spec::{Arithmetic, Scalar, TestPlace};
 use std::alloc::AllocError;
@@ -26,16 +28,6 @@ const CALL_NODES: usize = 2;
 /// The nodes of a loop behind the tests of its condition: where a round begins, the condition, and
 /// one between condition and body.
 const LOOP_NODES: usize = 3;
-
-/// A sum, or out of memory where it is more than can be counted.
-pub fn sum(a: usize, b: usize) -> Result<usize, AllocError>
-    ensures { IfOk result (λ n. n ≡ a + b) }
-{
-    match a.checked_add(b) {
-        Some(n) => Ok(n),
-        None => Err(AllocError),
-    }
-}
 
 /// How many tests an operator has.
 fn operator_count(operator: Arithmetic, of: Scalar) -> usize
@@ -56,7 +48,7 @@ fn operator_count(operator: Arithmetic, of: Scalar) -> usize
 /// So many tests, and those of an expression.
 #[tactic(auto, using(c_types_core::proofs::Views::views), unfolding(crate::specs::Counts::test_count))]
 fn with_tests(x: &Core<'_>, n: usize) -> Result<usize, AllocError>
-    ensures { IfOk result (λ m. m ≡ n + counts.test_count (core_of x.now)) }
+    ensures { IsCounted (n + counts.test_count (core_of x.now)) result }
 {
     match x {
         Core::Constant(_, _) | Core::GlobalAddress(_) => Ok(n),
@@ -99,14 +91,14 @@ fn with_tests(x: &Core<'_>, n: usize) -> Result<usize, AllocError>
 
 /// How many tests an expression has.
 pub fn count(x: &Core<'_>) -> Result<usize, AllocError>
-    ensures { (f : Setting) → IfOk result (λ n. n ≡ spec.count f (core_of x.now)) }
+    ensures { (f : Setting) → IsCounted (spec.count f (core_of x.now)) result }
 {
     with_tests(x, 0)
 }
 
 /// How many tests the arguments of a call have.
 pub fn argument_count(arguments: &[Box<Core<'_>>]) -> Result<usize, AllocError>
-    ensures { IfOk result (λ n. n ≡ counts.argument_count (cores_of arguments.now)) }
+    ensures { IsCounted (counts.argument_count (cores_of arguments.now)) result }
 {
     let mut n = 0;
     for argument in arguments {
@@ -124,7 +116,7 @@ fn label_count(label: &Option<i128>) -> usize
 
 /// So many nodes, and one for each value of a group.
 fn with_labels(labels: &[Option<i128>], n: usize) -> Result<usize, AllocError>
-    ensures { IfOk result (λ m. m ≡ n + length (spec.cases_to labels.now next.Ret)) }
+    ensures { IsCounted (n + length (spec.cases_to labels.now next.Ret)) result }
 {
     let mut m = n;
     for label in labels {
@@ -135,7 +127,7 @@ fn with_labels(labels: &[Option<i128>], n: usize) -> Result<usize, AllocError>
 
 /// So many nodes, and one for each value of some groups.
 pub fn with_cases(groups: &[Group<'_>], n: usize) -> Result<usize, AllocError>
-    ensures { IfOk result (λ m. m ≡ n + spec.case_count (groups_of groups.now)) }
+    ensures { IsCounted (n + spec.case_count (groups_of groups.now)) result }
 {
     let mut m = n;
     for group in groups {
@@ -147,7 +139,7 @@ pub fn with_cases(groups: &[Group<'_>], n: usize) -> Result<usize, AllocError>
 /// So many nodes, and those of the end of a call.
 #[tactic(auto, using(c_types_core::proofs::ActionViews::action_views), unfolding(crate::specs::Counts::size_of))]
 fn with_value(value: &Option<Box<Core<'_>>>, n: usize) -> Result<usize, AllocError>
-    ensures { IfOk result (λ m. m ≡ n + counts.size_of (tree.Return (core_in value.now))) }
+    ensures { IsCounted (n + counts.size_of (tree.Return (core_in value.now))) result }
 {
     match value {
         None => Ok(n),
@@ -162,7 +154,7 @@ fn with_value(value: &Option<Box<Core<'_>>>, n: usize) -> Result<usize, AllocErr
 #[cycle(sizes)]
 #[tactic(auto, using(c_types_core::proofs::ActionViews::action_views), unfolding(crate::specs::Counts::size_of))]
 fn with_size(action: &Action<'_>, n: usize) -> Result<usize, AllocError>
-    ensures { IfOk result (λ m. m ≡ n + counts.size_of (action_of action.now)) }
+    ensures { IsCounted (n + counts.size_of (action_of action.now)) result }
 {
     match action {
         Action::Block(actions) => with_sizes(actions.as_slice(), n),
@@ -210,7 +202,7 @@ fn with_size(action: &Action<'_>, n: usize) -> Result<usize, AllocError>
 /// So many nodes, and those of statements.
 #[cycle(sizes)]
 pub(crate) fn with_sizes(actions: &[Action<'_>], n: usize) -> Result<usize, AllocError>
-    ensures { IfOk result (λ m. m ≡ n + counts.size_of (block_of actions.now)) }
+    ensures { IsCounted (n + counts.size_of (block_of actions.now)) result }
 {
     let mut m = n;
     for action in actions {
@@ -222,7 +214,7 @@ pub(crate) fn with_sizes(actions: &[Action<'_>], n: usize) -> Result<usize, Allo
 /// So many nodes, and those of groups.
 #[cycle(sizes)]
 fn with_groups(groups: &[Group<'_>], n: usize) -> Result<usize, AllocError>
-    ensures { IfOk result (λ m. m ≡ n + counts.groups_size_of (groups_of groups.now)) }
+    ensures { IsCounted (n + counts.groups_size_of (groups_of groups.now)) result }
 {
     let mut m = n;
     for group in groups {
@@ -233,7 +225,7 @@ fn with_groups(groups: &[Group<'_>], n: usize) -> Result<usize, AllocError>
 
 /// How many nodes a statement has.
 pub fn size(action: &Action<'_>) -> Result<usize, AllocError>
-    ensures counted { IfOk result (λ n. n ≡ counts.size_of (action_of action.now)) }
+    ensures counted { IsCounted (counts.size_of (action_of action.now)) result }
     ensures size { (f : Setting) → IfOk result (λ n. n ≡ spec.size f (action_of action.now)) }
 {
     with_size(action, 0)

@@ -9,9 +9,10 @@ ghost use Rattle.c_graph_spec.specs.Layout.{Setting};
 ghost use Rattle.c_graph_layout.specs.Exits.{exits_of};
 ghost use Rattle.c_graph_layout.specs.Lists.{block_of, groups_of};
 
-use crate::counts::{count, size, sum, with_cases, with_sizes};
+use crate::counts::{count, size, with_cases, with_sizes};
 use attempt::attempt;
 use c_types_core::action::{Action, Group};
+use c_types_core::counts::sum;
 use c_types_core::expression::Core;
 use c_types_spec::Jump;
 use graph_core_spec::Next;

@@ -7,5 +7,5 @@
 mod counts;
 mod entries;
 
-pub use counts::{argument_count, count, size, sum, with_cases};
+pub use counts::{argument_count, count, size, with_cases};
 pub use entries::{Exits, entry, first, otherwise};
