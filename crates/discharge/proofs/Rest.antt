@@ -1,11 +1,10 @@
 -- The steps of a log, one after the other.
-use Rattle.std.proofs.Common.{◌≡◌, ◌∙◌, ℕ, zero, suc, ◌+◌, ◌-◌, ◌<◌, Bool, true, false, List, [], ◌∷◌, ◌++◌, length, length-append, drop, Some, None, Option, refl, sym, ap, subst, arith, get_or}
+use Rattle.std.proofs.Common.{◌≡◌, ◌∙◌, ℕ, ◌+◌, ◌-◌, ◌<◌, Bool, true, false, List, [], ◌∷◌, ◌++◌, length, length-append, Some, None, Option, refl, sym, ap, subst, arith, get_or}
 use Rattle.std.specs.Prelude.{slice_get}
-use Rattle.std.specs.Option.{option_map}
 use Rattle.std.proofs.lemmas.Option.{slice_get_read}
 use Rattle.std.proofs.Math.Seq.{get_or-append_seam}
 use Rattle.std.proofs.lemmas.Bool.{le-leb, leb-true}
-use Rattle.std.proofs.lemmas.List.{append_assoc, append-nil}
+use Rattle.std.proofs.lemmas.List.{append_assoc}
 use Rattle.std.specs.Prelude.{◌&&◌, ◌≤◌, if◌then◌else◌, Result, Ok, Err}
 use Rattle.std.specs.Prelude.{OnOk, IfSome, nat_le, ◌<◌, ◌↔◌}
 use Rattle.memory_spec.specs.Runs.{Run}
@@ -21,7 +20,7 @@ use Rattle.clause_check_spec.specs.declared.StepFaultKind.{StepFaultKind}
 use Rattle.clause_check_spec.specs.Clause.{Clause, Cnf}
 use Rattle.clause_check_spec.specs.Step.{Outcome, Follows, Refused, outcome}
 use Rattle.clause_check_spec.specs.Log.{Step, AllFollow, none, some, Refutes}
-use Rattle.discharge_spec.specs.Closing.{Closing, Closes, Unclosed, Fails, is_empty, after, at_end, checked}
+use Rattle.discharge_spec.specs.Closing.{Closing, Closes, Unclosed, is_empty, after, at_end, checked}
 use Rattle.discharge_spec.specs.Closing.{IsLarge, has_no_step, is_truth, closing_of_clauses, closing_of_form, closing, IsSmall, IsFirstAbove}
 use Rattle.discharge_spec.specs.declared.GoalQuantity.{GoalQuantity}
 use Rattle.discharge_spec.specs.declared.GoalQuantity.TheVariants.{Terms, Variables}
@@ -31,13 +30,12 @@ use Rattle.attempt.specs.declared.refusal.Refusal.TheVariants.{Fault, NoMemory}
 use Rattle.clause_check.specs.declared.hints.StepFault.{StepFault}
 use Rattle.discharge.specs.declared.error.CloseFault.{CloseFault}
 use Rattle.discharge.specs.declared.error.SeekFault.{SeekFault}
-use Rattle.discharge.specs.declared.error.CloseFault.TheVariants as close
 use Rattle.discharge.specs.declared.error.SeekFault.TheVariants as seek
 use Rattle.bit_blast_spec.specs.Goal.{cnf_of}
 use Rattle.sat_search_spec.specs.Logs.{Lean, Spent}
 use Rattle.discharge.specs.declared.seeking.Sought.{Sought}
 use Rattle.discharge.specs.declared.seeking.Sought.TheVariants.{Valid, Refuted, Limit}
-use Rattle.discharge.specs.Answers.{TakesFirst, refusal, Answers, CountsVariables, CountsLarge, HasFewVariables, RefutesGoal, SeeksForm, Seeks, is_empty_some, ends_empty}
+use Rattle.discharge.specs.Answers.{TakesFirst, refusal, Answers, HasFewVariables, RefutesGoal, SeeksForm, Seeks, is_empty_some, ends_empty}
 
 -- a log by its first step
 pub rest_of : (variables : ℕ) (clauses : List Clause) (is_closed : Bool) (number : ℕ) (steps : List Step) (step : Step) (others : List Step) → steps ≡ step ∷ others
@@ -99,11 +97,6 @@ refuted_closes cnf steps refutes =
     ∙ ap at_end (ap (ends_by false) refutes.ends ∙ ends_by-last false refutes.prefix refutes.last ∙ ap is_empty refutes.closes)
 
 -- ---- a checker that adds the steps
-
--- before the first
-pub begins : (old : Logged) (steps : List Step) → old.added ≡ []
-    → checked old.cnf.variables old.cnf.clauses false 1 steps ≡ checked old.cnf.variables (clauses_of old) (ends_empty old.added) (0 + 1) steps
-begins old steps e = sym (rw (e, append-nil old.cnf.clauses) refl)
 
 -- a step that doesn't follow
 refused_answers : (A : Type 0) (verdict : Closing) (before after : List Step) (old new : Logged) (is_closed : Bool) (number : ℕ) (error : Refusal StepFault)
@@ -193,14 +186,6 @@ never_large variables clauses is_closed number (step ∷ steps) quantity e =
     by_outcome Follows rest on = rest on
     by_outcome (Refused hint kind) rest on = cc
 
-pub counts_none : {A : Type 0} (form : Term) (verdict : Closing) (result : Result A (Refusal CloseFault)) → ((quantity : GoalQuantity) → verdict ≡ IsLarge quantity → ⊥)
-    → Answers verdict result → CountsVariables form result
-counts_none form verdict (Ok done) never answers = tt
-counts_none form verdict (Err (Fault (close.Large quantity count))) never answers = absurd (never quantity answers)
-counts_none form verdict (Err (Fault (close.Step number))) never answers = tt
-counts_none form verdict (Err (Fault close.Unclosed)) never answers = tt
-counts_none form verdict (Err NoMemory) never answers = tt
-
 -- ---- answers of the parts, together
 
 pub holds_by : {A : Type 0} (result : Result A (Refusal CloseFault)) (verdict : Closing) (P : Type 0) → Answers verdict result → (verdict ≡ Closes → P) → OnOk result P
@@ -217,7 +202,7 @@ small_by : (runs : List Run) (goal form : Term) → nat_le (subterm_count goal) 
 small_by runs goal form small is few = record { terms = leb-true (subterm_count goal) MAX_TERMS small; variables = subst HasFewVariables is few }
 
 -- or is too large by those
-large_by : (runs : List Run) (goal form : Term) (quantity : GoalQuantity) (count : ℕ) → nat_le (subterm_count goal) MAX_TERMS ≡ true → form ≡ normal runs goal
+pub large_by : (runs : List Run) (goal form : Term) (quantity : GoalQuantity) (count : ℕ) → nat_le (subterm_count goal) MAX_TERMS ≡ true → form ≡ normal runs goal
     → (quantity ≡ Variables) × (MAX_VARIABLES < count) × (count ≤ (cnf_of form).variables) → IsFirstAbove runs goal quantity count
 large_by runs goal form quantity count small is large =
     subst (λ q. IsFirstAbove runs goal q count) (sym large.0) (record {
@@ -225,14 +210,6 @@ large_by runs goal form quantity count small is large =
       above = large.1;
       least = subst (λ f. count ≤ (cnf_of f).variables) is large.2;
     })
-
-pub counts_by : {A : Type 0} (runs : List Run) (goal form : Term) (result : Result A (Refusal CloseFault)) → nat_le (subterm_count goal) MAX_TERMS ≡ true → form ≡ normal runs goal
-    → CountsVariables form result → CountsLarge runs goal result
-counts_by runs goal form (Ok done) small is counts = tt
-counts_by runs goal form (Err (Fault (close.Large quantity count))) small is counts = large_by runs goal form quantity count small is counts
-counts_by runs goal form (Err (Fault (close.Step number))) small is counts = tt
-counts_by runs goal form (Err (Fault close.Unclosed)) small is counts = tt
-counts_by runs goal form (Err NoMemory) small is counts = tt
 
 -- a goal with few terms is refuted where its normal form is
 pub refutes_by : (runs : List Run) (goal form : Term) (found : Option Assignment) → nat_le (subterm_count goal) MAX_TERMS ≡ true → form ≡ normal runs goal

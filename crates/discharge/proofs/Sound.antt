@@ -1,7 +1,6 @@
 -- What a log closes has no model, so the goal is true.
-use Rattle.std.proofs.Common.{◌≡◌, ◌∙◌, ℕ, ◌+◌, Bool, true, false, List, [], ◌∷◌, ◌++◌, Some, refl, sym, ap}
+use Rattle.std.proofs.Common.{◌≡◌, ◌∙◌, ℕ, ◌+◌, Bool, true, false, List, [], ◌∷◌, ◌++◌, Some, refl, sym}
 use Rattle.std.specs.Prelude.{◌&&◌, if◌then◌else◌, nat_le}
-use Rattle.std.specs.List.{list_all}
 use Rattle.std.proofs.lemmas.List.Folds.{list_all-append}
 use Rattle.memory_spec.specs.Runs.{Run, AreBytes}
 use Rattle.term_core_spec.specs.declared.Atom.TheVariants as atom
@@ -13,7 +12,6 @@ use Rattle.term_core_spec.specs.Value.{Truth, Assignment, IsAssignment, value}
 use Rattle.term_norm_spec.specs.Fixed.{HoldsFixed}
 use Rattle.term_norm_spec.specs.Normal.{normal}
 use Rattle.term_norm_spec.proofs.Soundness.{keeps_normal}
-use Rattle.clause_check_spec.specs.declared.Literal.{Literal}
 use Rattle.clause_check_spec.specs.Clause.{Clause, Cnf, Valuation, satisfies_clause, satisfies}
 use Rattle.clause_check_spec.specs.Step.{Outcome, Follows, Refused, outcome}
 use Rattle.clause_check_spec.specs.Log.{Step}
@@ -22,7 +20,7 @@ use Rattle.bit_blast_spec.specs.Goal.{cnf_of}
 use Rattle.bit_blast_laws.proofs.ModelsWhole.{true_by_unsatisfied}
 use Rattle.tv_limits.specs.declared.TheConstants.{MAX_TERMS, MAX_VARIABLES}
 use Rattle.discharge_spec.specs.declared.GoalQuantity.TheVariants.{Terms, Variables}
-use Rattle.discharge_spec.specs.Closing.{Closing, Closes, IsLarge, is_empty, has_no_step, is_truth, after, checked, closing_of_clauses, closing_of_form, closing}
+use Rattle.discharge_spec.specs.Closing.{Closes, IsLarge, is_empty, has_no_step, is_truth, after, checked, closing_of_clauses, closing_of_form, closing}
 
 -- no model, where one more clause that follows has none
 none_before : (a b : Bool) → (a ≡ true → b ≡ true) → (a && (b && true)) ≡ false → a ≡ false

@@ -1,5 +1,5 @@
 -- What closing and seeking answer.
-use Rattle.std.specs.Prelude.{◌≡◌, ℕ, ◌+◌, ◌-◌, ◌<◌, ◌≤◌, Bool, false, List, [], ◌∷◌, ◌++◌, length, Option, Some, None, slice_get, Result, Ok, Err}
+use Rattle.std.specs.Prelude.{◌≡◌, ℕ, ◌-◌, ◌<◌, ◌≤◌, Bool, false, List, [], ◌∷◌, ◌++◌, length, Option, Some, None, slice_get, Result, Ok, Err}
 use Rattle.memory_spec.specs.Runs.{Run}
 use Rattle.term_core_spec.specs.Term.{Term}
 use Rattle.term_core_spec.specs.Value.{Truth, value}
@@ -7,7 +7,7 @@ use Rattle.term_core.specs.declared.assignment.Assignment.{Assignment}
 use Rattle.term_core.specs.Assignment.{assignment_of}
 use Rattle.term_norm_spec.specs.Normal.{normal}
 use Rattle.clause_check_spec.specs.declared.StepFaultKind.{StepFaultKind}
-use Rattle.clause_check_spec.specs.Clause.{Clause, Cnf}
+use Rattle.clause_check_spec.specs.Clause.{Clause}
 use Rattle.clause_check_spec.specs.Log.{Step}
 use Rattle.clause_check_spec.specs.Step.{Follows, Refused, outcome}
 use Rattle.clause_check.specs.Logged.{Logged, clauses_of}
@@ -20,7 +20,6 @@ use Rattle.discharge.specs.declared.error.CloseFault.TheVariants as close
 use Rattle.discharge.specs.declared.error.SeekFault.TheVariants as seek
 use Rattle.bit_blast_spec.specs.Goal.{cnf_of}
 use Rattle.sat_search_spec.specs.Logs.{Spent, Lean}
-use Rattle.discharge_spec.specs.declared.GoalQuantity.{GoalQuantity}
 use Rattle.discharge_spec.specs.declared.GoalQuantity.TheVariants.{Terms, Variables}
 use Rattle.tv_limits.specs.declared.TheConstants.{MAX_VARIABLES}
 use Rattle.discharge_spec.specs.Closing.{Closing, Closes, IsLarge, Fails, Unclosed, is_empty, closing_of_form, closing, IsWithin, IsSmall, IsFirstAbove}
@@ -38,12 +37,6 @@ Answers verdict (Err NoMemory) = Unit {0}
 abbrev pub CountsLarge : {A : Type 0} → List Run → (goal : Term) → Result A (Refusal CloseFault) → Type 0
 CountsLarge runs goal (Err (Fault (close.Large quantity count))) = IsFirstAbove runs goal quantity count
 CountsLarge runs goal other = Unit {0}
-
--- for a goal in normal form
-abbrev pub CountsVariables : {A : Type 0} → (form : Term) → Result A (Refusal CloseFault) → Type 0
-CountsVariables form (Err (Fault (close.Large quantity count))) =
-    (quantity ≡ Variables) × (MAX_VARIABLES < count) × (count ≤ (cnf_of form).variables)
-CountsVariables form other = Unit {0}
 
 -- what adding the first of some steps to a log comes to
 abbrev pub TakesFirst : (before after : List Step) → (old new : Logged) → Result (Unit {0}) (Refusal StepFault) → Type 0

@@ -1,6 +1,6 @@
 //! Whether a log closes a goal.
 
-ghost use Rattle.std.specs.Prelude.{◌≡◌, ◌<◌, ◌≤◌, length, Some, OnOk, [], true, false};
+ghost use Rattle.std.specs.Prelude.{◌≡◌, ◌<◌, ◌≤◌, length, Some, OnOk, true};
 ghost use Rattle.memory_spec.specs.Viewed.{runs_of};
 ghost use Rattle.term_core_spec.specs.declared.Sort.TheVariants as sort;
 ghost use Rattle.term_core_spec.specs.Sort.{sort_of};
@@ -8,33 +8,19 @@ ghost use Rattle.term_core_spec.specs.Value as term_value;
 ghost use Rattle.term_norm_spec.specs.Fixed.{HoldsFixed};
 ghost use Rattle.term_bank.specs.Nodes.{tree_at, Extends};
 ghost use Rattle.discharge_spec.specs.Closing as spec;
-ghost use Rattle.discharge.specs.Answers.{Answers, CountsLarge, CountsVariables, refusal};
+ghost use Rattle.discharge.specs.Answers.{Answers, CountsLarge, refusal};
+ghost use Rattle.discharge.specs.Closers.{IsBounded, open_of, opened, outcome_by};
 
+use crate::closer::Closer;
 use crate::error::CloseFault;
-use crate::limits::is_within;
 use crate::steps::Steps;
 use attempt::Refusal;
-use bit_blast::{BlastFault, Blasted, blast};
 use clause_check::{Log, StepFault};
-use cnf_core::{Cnf, MAX_VARIABLE};
-use discharge_spec::GoalQuantity;
+use cnf_core::MAX_VARIABLE;
 use memory_spec::Run;
 use std::alloc::Global;
-use term_bank::{Bank, TermId, TermNode};
-use term_core_spec::Atom;
-use term_norm::normal;
-use tv_limits::{MAX_TERMS, MAX_VARIABLES};
-
-/// Whether a term is the truth value true.
-pub fn is_truth(bank: &Bank, form: TermId) -> bool
-    requires { form < length bank.now }
-    ensures { result ≡ spec.is_truth (tree_at bank.now form) }
-{
-    match bank.node(form) {
-        TermNode::Leaf(Atom::Truth(truth)) => truth,
-        _ => false,
-    }
-}
+use term_bank::{Bank, TermId};
+use term_norm::hold_runs;
 
 /// Why the step of a number doesn't follow.
 fn step_error(error: Refusal<StepFault>, number: usize) -> Refusal<CloseFault>
@@ -46,16 +32,14 @@ fn step_error(error: Refusal<StepFault>, number: usize) -> Refusal<CloseFault>
     }
 }
 
-/// Adds the steps of a log to a checker that has none.
+/// Adds the steps of a log to those of a checker.
 fn add_steps<L: Steps>(
     alloc: Global,
     checker: &mut Log,
     log: &mut L,
 ) -> Result<(), Refusal<CloseFault>>
-    requires none { checker.old.added ≡ [] }
-    requires variables { checker.old.cnf.variables ≤ MAX_VARIABLE }
-    ensures { Answers (spec.checked checker.old.cnf.variables checker.old.cnf.clauses false 1
-        (L.left log.old)) result }
+    requires { checker.old.cnf.variables ≤ MAX_VARIABLE }
+    ensures { Answers (outcome_by (Some (opened checker.old)) (L.left log.old)) result }
 {
     let count = log.count();
     for index in 0..count {
@@ -71,39 +55,18 @@ fn add_steps<L: Steps>(
     }
 }
 
-/// Checks a log over clauses.
-fn close_clauses<L: Steps>(alloc: Global, cnf: Cnf, log: &mut L) -> Result<(), Refusal<CloseFault>>
-    requires { cnf.variables ≤ MAX_VARIABLE }
-    ensures { Answers (spec.checked cnf.variables cnf.clauses false 1 (L.left log.old)) result }
-{
-    match Log::new(alloc, cnf) {
-        Ok(mut checker) => add_steps(alloc, &mut checker, log),
-        Err(_) => Err(Refusal::NoMemory),
-    }
-}
-
-/// Closes a goal in normal form.
-fn close_form<L: Steps>(
+/// Gives the steps of a log.
+fn give_steps<L: Steps>(
     alloc: Global,
-    bank: &Bank,
-    form: TermId,
+    closer: &mut Closer,
     log: &mut L,
 ) -> Result<(), Refusal<CloseFault>>
-    requires { form < length bank.now }
-    ensures answers { Answers (spec.closing_of_form (tree_at bank.now form) (L.left log.old))
-        result }
-    ensures large { CountsVariables (tree_at bank.now form) result }
+    requires { IsBounded (open_of closer.old) }
+    ensures { Answers (outcome_by (open_of closer.old) (L.left log.old)) result }
 {
-    if is_truth(bank, form) && log.count() == 0 {
-        return Ok(());
-    }
-    match blast(alloc, bank, form, MAX_VARIABLES) {
-        Ok(Blasted { cnf, .. }) => close_clauses(alloc, cnf, log),
-        Err(Refusal::Fault(BlastFault::Large(count))) => Err(Refusal::Fault(CloseFault::Large(
-            GoalQuantity::Variables,
-            count,
-        ))),
-        Err(Refusal::NoMemory) => Err(Refusal::NoMemory),
+    match &mut closer.log {
+        Some(checker) => add_steps(alloc, checker, log),
+        None => Ok(()),
     }
 }
 
@@ -129,16 +92,9 @@ pub fn close<L: Steps>(
         → term_value.value a (tree_at bank.old goal) ≡ term_value.Truth true) }
     ensures extends { Extends bank.old bank.new }
 {
-    match is_within(alloc, bank, goal) {
-        Ok(true) => {}
-        Ok(false) => return Err(Refusal::Fault(CloseFault::Large(
-            GoalQuantity::Terms,
-            MAX_TERMS + 1,
-        ))),
-        Err(_) => return Err(Refusal::NoMemory),
-    }
-    match normal(alloc, bank, goal, runs) {
-        Ok(form) => close_form(alloc, bank, form, log),
-        Err(_) => Err(Refusal::NoMemory),
+    hold_runs(runs);
+    match Closer::begin(alloc, bank, goal, log.count(), runs) {
+        Ok(mut closer) => give_steps(alloc, &mut closer, log),
+        Err(error) => Err(error),
     }
 }

@@ -7,9 +7,9 @@ ghost use Rattle.term_core.specs.Assignment.{assignment_of};
 ghost use Rattle.term_bank.specs.Nodes.{Extends, tree_at};
 ghost use Rattle.discharge.specs.Answers.{RefutesGoal};
 
-use crate::closing::is_truth;
 use crate::guess;
 use crate::limits::is_within;
+use crate::truth::is_truth;
 use memory_spec::Run;
 use std::alloc::{AllocError, Global};
 use term_bank::{Bank, TermId};

@@ -7,6 +7,7 @@
 //! those what the values of the bank's terms suggest (`src/values.rt`).
 #![tactic(auto)]
 
+mod closer;
 mod closing;
 mod error;
 mod guessing;
@@ -19,6 +20,7 @@ mod steps;
 mod truth;
 mod values;
 
+pub use closer::Closer;
 pub use closing::close;
 pub use discharge_spec::GoalQuantity;
 pub use error::{CloseFault, SeekFault};

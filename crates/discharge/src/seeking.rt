@@ -12,9 +12,9 @@ ghost use Rattle.sat_search.specs.Found.{IsFound};
 ghost use Rattle.discharge_spec.specs.Closing.{is_truth as is_truth_term};
 ghost use Rattle.discharge.specs.Answers.{Seeks, SeeksForm};
 
-use crate::closing::is_truth;
 use crate::error::SeekFault;
 use crate::limits::is_within;
+use crate::truth::is_truth;
 use attempt::Refusal;
 use bit_blast::{BlastFault, Blasted, blast, read_back};
 use discharge_spec::GoalQuantity;

@@ -6,12 +6,23 @@ ghost use Rattle.term_norm_spec.specs.Normal as spec;
 ghost use Rattle.term_bank.specs.Nodes.{Extends, tree_at};
 ghost use Rattle.discharge_spec.specs.Closing.{is_truth as is_truth_term};
 
-use crate::closing::is_truth;
 use crate::limits::is_within;
 use memory_spec::Run;
 use std::alloc::{AllocError, Global};
-use term_bank::{Bank, TermId};
+use term_bank::{Bank, TermId, TermNode};
+use term_core_spec::Atom;
 use term_norm::normal;
+
+/// Whether a term is the truth value true.
+pub fn is_truth(bank: &Bank, form: TermId) -> bool
+    requires { form < length bank.now }
+    ensures { result ≡ is_truth_term (tree_at bank.now form) }
+{
+    match bank.node(form) {
+        TermNode::Leaf(Atom::Truth(truth)) => truth,
+        _ => false,
+    }
+}
 
 /// Whether a goal has the normal form true. Of a goal that is too large it is not known.
 pub fn is_true(

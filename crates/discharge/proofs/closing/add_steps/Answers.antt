@@ -1,12 +1,12 @@
 use Rattle.std.proofs.Common.{◌∙◌, arith, refl, ap, ◌+◌}
-use Rattle.std.specs.Prelude.{length, ◌∷◌}
+use Rattle.std.specs.Prelude.{length}
 use Rattle.clause_check.specs.Logged.{clauses_of}
 use Rattle.discharge.specs.Answers.{ends_empty}
-use Rattle.discharge.proofs.Rest.{error_answers, goes_on, at_end_closed, at_end_open, begins}
+use Rattle.discharge.proofs.Rest.{error_answers, goes_on, at_end_closed, at_end_open}
 use Rattle.discharge.proofs.closing.add_steps.Goals as goal
 
 pub loop-index-init : goal.loop-index-init
-loop-index-init g c = record { cnf = refl; count = omega arith; rest = begins c.args.checker.now (g.L.Steps.left c.args.log.now) c.requires.none }
+loop-index-init g c = record { cnf = refl; count = omega arith; rest = refl }
 
 pub loop-index-preserved : goal.loop-index-preserved
 loop-index-preserved g c =

@@ -1,4 +1,4 @@
-use Rattle.std.proofs.Common.{◌∙◌, sym, subst, ap}
+use Rattle.std.proofs.Common.{subst}
 use Rattle.clause_check_spec.specs.Clause.{Cnf}
 use Rattle.sat_search.specs.declared.solution.Found.{Found}
 use Rattle.sat_search.specs.Found.{IsFound}

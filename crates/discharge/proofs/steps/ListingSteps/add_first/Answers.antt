@@ -1,4 +1,3 @@
-use Rattle.std.proofs.Common.{refl}
 use Rattle.clause_check_spec.specs.Step.{outcome}
 use Rattle.clause_check.specs.Logged.{clauses_of}
 use Rattle.discharge.proofs.Rest.{step_taken}
