@@ -14,6 +14,7 @@ ghost use Rattle.c_types_declaration.specs.Sizes as specs;
 use crate::faults::first_fault;
 use attempt::{Refusal, attempt};
 use c_syntax::expression::Name;
+use c_types_core::counts::sum;
 use c_types_core::fault::TypeFault;
 use c_types_layout::structs::{Definition, Layout, Placed, alignment, member_named, size};
 use c_types_layout::types::{CType, Outer};
@@ -171,10 +172,8 @@ fn rounded_up(alignment: u64, n: u64) -> Result<u64, Refusal<TypeFault>>
         return Ok(n);
     }
     let missing = (alignment - n % alignment) % alignment;
-    match n.checked_add(missing) {
-        Some(sum) => Ok(sum),
-        None => Err(Refusal::NoMemory),
-    }
+    let rounded = attempt!(sum(n as usize, missing as usize), Refusal::NoMemory);
+    Ok(rounded as u64)
 }
 
 /// The size of a type that has one below the limit.
@@ -223,14 +222,10 @@ fn with_member<'a>(
 {
     let distance = attempt_or_drop!(rounded_up(alignment, layout.filled); of);
     attempt!(push_member(layout, name, of, distance));
-    match distance.checked_add(size) {
-        Some(filled) => {
-            layout.filled = filled;
-            layout.alignment = layout.alignment.max(alignment);
-            Ok(())
-        }
-        None => Err(Refusal::NoMemory),
-    }
+    let filled = attempt!(sum(distance as usize, size as usize), Refusal::NoMemory);
+    layout.filled = filled as u64;
+    layout.alignment = layout.alignment.max(alignment);
+    Ok(())
 }
 
 /// The struct is not too large.

@@ -1,5 +1,5 @@
 -- Lines of a certificate that are accepted show the parts of its functions.
-use Rattle.std.proofs.Common.{◌≡◌, ℕ, ◌+◌, List, [], ◌∷◌, ◌++◌, length, Some, refl}
+use Rattle.std.proofs.Common.{◌≡◌, ℕ, ◌+◌, List, [], ◌∷◌, length, Some, refl}
 use Rattle.std.specs.Prelude.{All, Contains}
 use Rattle.std.proofs.lemmas.List.Elements.{All-head, All-tail}
 use Rattle.graph_core_spec.specs.Graph.{Graph}
@@ -9,7 +9,7 @@ use Rattle.proof_tree_spec.specs.declared.Place.TheVariants as place
 use Rattle.sim_rules_spec.specs.Sides.{graph_at}
 use Rattle.cert_text_spec.specs.Lines as line
 use Rattle.cert_text_spec.specs.Lines.{Line, line_text}
-use Rattle.cert_check_lines_spec.specs.Jobs.{AtEntry, Job, Prove}
+use Rattle.cert_check_lines_spec.specs.Jobs.{AtEntry, Prove}
 use Rattle.cert_check_lines_spec.specs.Shown.{IsShown}
 use Rattle.cert_check_lines_spec.specs.Parts.{CodeFunction, SourceFunction, Functions, Member, Unfolded, unfolded, IsCodeCall, IsSourceCall, with_code, with_source, part_of, State, Between, Unfolding, Inside, HasParts, at_start, at_close, Accepts, header, function, inline_code, inline_source, first, next, last, AreAccepted, none, some, Unfolds, as_it_is, code_inlined, source_inlined, AreShown, no_part, one_more, IsPlainLine, AcceptedIsShown, PlainIsShown}
 use Rattle.cert_check_lines_laws.proofs.Showing.{JobsShown, before, nothing_left, one_proof}

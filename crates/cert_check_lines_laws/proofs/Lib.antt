@@ -2,3 +2,4 @@ pub mod Logs
 pub mod Showing
 pub mod Stepping
 pub mod Accepting
+pub mod Going

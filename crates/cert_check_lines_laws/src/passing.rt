@@ -2,6 +2,7 @@
 
 ghost use Rattle.cert_check_lines_spec.specs.Parts.{AcceptedIsShown, PlainIsShown};
 ghost use Rattle.cert_check_lines_spec.specs.Shown.{ClosingPasses, PassedIsShown};
+ghost use Rattle.cert_check_lines_spec.specs.Walk.{GoingIsAccepted};
 
 /// Where the lines of a proof pass one after the other and leave nothing, the frame has a tree of
 /// the rules Leaf, Case, Restrict, Split and Call, what each asks holds, and a log closes each of
@@ -25,4 +26,9 @@ pub fn what_is_accepted_is_shown()
 /// Where none of the lines inlines a call, the frames are those of the functions themselves.
 pub fn plain_parts_are_shown()
     ensures { PlainIsShown }
+{}
+
+/// A checker that goes on after lines has accepted each of them.
+pub fn what_goes_on_is_accepted()
+    ensures { GoingIsAccepted }
 {}

@@ -3,3 +3,4 @@ pub mod Jobs
 pub mod LineRules
 pub mod Shown
 pub mod Parts
+pub mod Walk

@@ -18,8 +18,9 @@ use Rattle.cert_check_spec.specs.Verdict.{Listed, IsMissing}
 use Rattle.tv_limits.specs.declared.TheConstants.{MAX_NODES}
 use Rattle.cert_check_lines_spec.specs.Sites.{CodeBody, SourceBody, Part}
 use Rattle.cert_check_lines_spec.specs.Jobs.{AtEntry, Job, Prove}
-use Rattle.cert_check_lines_spec.specs.LineRules as rules
-use Rattle.cert_check_lines_spec.specs.LineRules.{Passes, Fails}
+use Rattle.cert_check_spec.specs.declared.RuleWord.TheVariants as fault
+use Rattle.tv_limits.specs.declared.Quantity.TheVariants as quantity
+use Rattle.cert_check_lines_spec.specs.LineRules.{Fault, Breaks, Above, Passes, Fails}
 use Rattle.cert_check_lines_spec.specs.Shown.{IsShown}
 
 -- ---- functions
@@ -153,16 +154,6 @@ pub data HasParts : State → List Member → Type 0 where
   at_start : (parts : List Member) → HasParts (Between parts) parts
   at_close : (parts : List Member) (f : Member) (u : Unfolded) → HasParts (Inside parts f u []) (parts ++ f ∷ [])
 
--- what is wrong at a line: the function of a part isn't listed or has a part already, or has another stack; a call that is to
--- be inlined isn't there; a listed function has no part; or what is wrong inside a proof
-pub data Wrong : Type 0 where
-  Stranger : Wrong
-  Stack : Wrong
-  Inline : Wrong
-  Nodes : (count : ℕ) → Wrong
-  Missing : Wrong
-  Of : rules.Fault → Wrong
-
 -- a listed function of this name has no part yet
 pub record IsFree (members parts : List Member) (name : List ℕ) (f : Member) : Type 0 where
   pub is_listed : Contains members f
@@ -192,27 +183,27 @@ module _ (fs : Functions) (members : List Member) where
 
   -- the first rule that the line breaks in the part of a function of this name, or the limit that comes before it, and the
   -- offset of the line that is at fault: this one, or that of the log whose last step it is
-  pub data Rejects (at : ℕ) : State → Line → (offset : ℕ) → (name : List ℕ) → Wrong → Type 0 where
+  pub data Rejects (at : ℕ) : State → Line → (offset : ℕ) → (name : List ℕ) → Fault → Type 0 where
     unlisted : (s : State) (parts : List Member) (name : List ℕ) (stack : ℕ) → HasParts s parts → ((f : Member) → IsFree members parts name f → ⊥)
-        → Rejects at s (line.Function name stack) at name Stranger
+        → Rejects at s (line.Function name stack) at name (Breaks fault.Stranger)
     other_stack : (s : State) (parts : List Member) (name : List ℕ) (stack : ℕ) (f : Member) → HasParts s parts → IsFree members parts name f → stack ≢ f.listed.stack
-        → Rejects at s (line.Function name stack) at name Stack
+        → Rejects at s (line.Function name stack) at name (Breaks fault.Stack)
     no_code_call : (parts : List Member) (f : Member) (u : Unfolded) (point : BinaryPoint) → ((node : ℕ) (callee : CodeFunction) → IsCodeCall fs u point node callee → ⊥)
-        → Rejects at (Unfolding parts f u) (line.InlineBinary point) at f.listed.name Inline
+        → Rejects at (Unfolding parts f u) (line.InlineBinary point) at f.listed.name (Breaks fault.Inline)
     code_nodes : (parts : List Member) (f : Member) (u : Unfolded) (point : BinaryPoint) (node : ℕ) (callee : CodeFunction) → IsCodeCall fs u point node callee
         → MAX_NODES < inlined_size (graph_at u.frame.binary) callee.graph
-        → Rejects at (Unfolding parts f u) (line.InlineBinary point) at f.listed.name (Nodes (inlined_size (graph_at u.frame.binary) callee.graph))
+        → Rejects at (Unfolding parts f u) (line.InlineBinary point) at f.listed.name (Above quantity.Nodes)
     no_source_call : (parts : List Member) (f : Member) (u : Unfolded) (point : SourcePoint)
         → ((call node : ℕ) (callee : SourceFunction) → point.place ≡ place.Call call → IsSourceCall fs u point.path call node callee → ⊥)
-        → Rejects at (Unfolding parts f u) (line.InlineSource point) at f.listed.name Inline
+        → Rejects at (Unfolding parts f u) (line.InlineSource point) at f.listed.name (Breaks fault.Inline)
     source_nodes : (parts : List Member) (f : Member) (u : Unfolded) (path : List ℕ) (call node : ℕ) (callee : SourceFunction) → IsSourceCall fs u path call node callee
         → MAX_NODES < inlined_size (graph_at u.frame.source) callee.graph
-        → Rejects at (Unfolding parts f u) (line.InlineSource (record { path = path; place = place.Call call })) at f.listed.name (Nodes (inlined_size (graph_at u.frame.source) callee.graph))
-    first_wrong : (parts : List Member) (f : Member) (u : Unfolded) (one : Line) (offset : ℕ) (wrong : rules.Fault)
-        → Fails (part_of fs parts f u) at (Prove AtEntry u.frame ∷ []) one offset wrong → Rejects at (Unfolding parts f u) one offset f.listed.name (Of wrong)
-    next_wrong : (parts : List Member) (f : Member) (u : Unfolded) (jobs : List Job) (one : Line) (offset : ℕ) (wrong : rules.Fault)
-        → Fails (part_of fs parts f u) at jobs one offset wrong → Rejects at (Inside parts f u jobs) one offset f.listed.name (Of wrong)
-    lacking : (s : State) (parts : List Member) (f : Listed) → HasParts s parts → LacksPart members parts f → Rejects at s line.End at f.name Missing
+        → Rejects at (Unfolding parts f u) (line.InlineSource (record { path = path; place = place.Call call })) at f.listed.name (Above quantity.Nodes)
+    first_wrong : (parts : List Member) (f : Member) (u : Unfolded) (one : Line) (offset : ℕ) (wrong : Fault)
+        → Fails (part_of fs parts f u) at (Prove AtEntry u.frame ∷ []) one offset wrong → Rejects at (Unfolding parts f u) one offset f.listed.name wrong
+    next_wrong : (parts : List Member) (f : Member) (u : Unfolded) (jobs : List Job) (one : Line) (offset : ℕ) (wrong : Fault)
+        → Fails (part_of fs parts f u) at jobs one offset wrong → Rejects at (Inside parts f u jobs) one offset f.listed.name wrong
+    lacking : (s : State) (parts : List Member) (f : Listed) → HasParts s parts → LacksPart members parts f → Rejects at s line.End at f.name (Breaks fault.Missing)
 
   -- the lines, the first of which begins at the offset, are accepted one after the other
   pub data AreAccepted : (at : ℕ) → State → List Line → State → Type 0 where
@@ -221,10 +212,10 @@ module _ (fs : Functions) (members : List Member) where
         → AreAccepted at s (one ∷ lines) final
 
   -- they are, but for the one at the offset, which is the first that is rejected, or has the first that is
-  pub data IsRejected : (at : ℕ) → State → List Line → (offset : ℕ) → (name : List ℕ) → Wrong → Type 0 where
-    here : (at : ℕ) (s : State) (one : Line) (lines : List Line) (offset : ℕ) (name : List ℕ) (wrong : Wrong) → Rejects at s one offset name wrong
+  pub data IsRejected : (at : ℕ) → State → List Line → (offset : ℕ) → (name : List ℕ) → Fault → Type 0 where
+    here : (at : ℕ) (s : State) (one : Line) (lines : List Line) (offset : ℕ) (name : List ℕ) (wrong : Fault) → Rejects at s one offset name wrong
         → IsRejected at s (one ∷ lines) offset name wrong
-    there : (at : ℕ) (s middle : State) (one : Line) (lines : List Line) (offset : ℕ) (name : List ℕ) (wrong : Wrong) → Accepts at s one middle
+    there : (at : ℕ) (s middle : State) (one : Line) (lines : List Line) (offset : ℕ) (name : List ℕ) (wrong : Fault) → Accepts at s one middle
         → IsRejected (at + length (line_text one)) middle lines offset name wrong → IsRejected at s (one ∷ lines) offset name wrong
 
 -- ---- what they show
