@@ -18,7 +18,8 @@ use Rattle.decompile.specs.Answer.{setting, counting, IsFunctionGraph}
 use Rattle.decompile.specs.Callees.{IsListed}
 use Rattle.decompile.specs.Counts.{numbered, counted, IsTooMany}
 use Rattle.decompile.specs.Errors.{IsGraphError}
-use Rattle.decompile.specs.Settings.{run_of, HaveExtents}
+use Rattle.decompile_accesses.specs.Runs.{run_of}
+use Rattle.decompile.specs.Settings.{HaveExtents}
 use Rattle.decompile.proofs.Listed.{all_listed}
 use Rattle.decompile.proofs.Whole.{sized, whole, made_counted}
 

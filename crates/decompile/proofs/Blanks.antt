@@ -12,7 +12,7 @@ use Rattle.graph_core_spec.specs.Graph.{Node, Basic, Graph}
 use Rattle.decompile_spec.specs.InstructionTerms.{number, avoids, access_tests, address, aligned_for, last_written}
 use Rattle.decompile_spec.specs.Blocks.{Of, Setting, Ending, Does, Goes, onward, toward, chain, tests_of, ending_of, nodes_at, landing_of}
 use Rattle.decompile_laws.specs.Layout.{Item, block, blocks, laid, landing_node}
-use Rattle.decompile.specs.Settings.{blanked}
+use Rattle.decompile_accesses.specs.Runs.{blanked}
 
 avoids_blank : (a e : Term) (run : Run) → avoids a e (blanked run) ≡ avoids a e run
 avoids_blank a e run = ap (λ (n : ℕ). or_term (less (number (run.start + n - 1)) a) (less e (number run.start))) (length-replicate (length run.bytes) 0)

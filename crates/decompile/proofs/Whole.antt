@@ -19,7 +19,8 @@ use Rattle.decompile.specs.declared.items.Item.{Item as CodeItem}
 use Rattle.decompile.specs.Items.{item_of, AreInstructions}
 use Rattle.decompile.specs.Answer.{first_in, setting, counting, IsFunctionGraph}
 use Rattle.decompile.specs.Counts.{numbered, counted}
-use Rattle.decompile.specs.Settings.{run_of, blanked, HaveExtents}
+use Rattle.decompile_accesses.specs.Runs.{run_of, blanked}
+use Rattle.decompile.specs.Settings.{HaveExtents}
 use Rattle.decompile.proofs.Blanks.{same_laid}
 use Rattle.decompile.proofs.Counted.{laid_counted}
 use Rattle.decompile.proofs.Rising.{one_list}

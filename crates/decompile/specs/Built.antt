@@ -1,22 +1,16 @@
--- What calls answer that build tests and bindings, or add nodes.
-use Rattle.std.specs.Prelude.{◌≡◌, Box, Vec, Result, IfOk, List, map}
+-- What calls answer that build bindings, or add nodes.
+use Rattle.std.specs.Prelude.{◌≡◌, Vec, Result, IfOk, List}
 use Rattle.std.specs.Global.{Global}
-use Rattle.term_core_spec.specs.Term.{Term}
-use Rattle.term_core.specs.declared.term.Term.{Term as CodeTerm}
 use Rattle.graph_core_spec.specs.Graph as spec
 use Rattle.graph_core.specs.declared.graph.Binding.{Binding}
 use Rattle.graph_core.specs.declared.graph.Graph.{Graph}
-use Rattle.graph_core.specs.Graphs.{boxed_term, bindings_of, graph_of}
+use Rattle.graph_core.specs.Graphs.{bindings_of, graph_of}
 use Rattle.decompile_laws.specs.Layout.{Item, block}
 use Rattle.decompile.specs.declared.function.Function.{Function}
 use Rattle.code_reach_spec.specs.Code.{Flow}
 use Rattle.decompile.specs.declared.items.Item.{Item as CodeItem}
 use Rattle.decompile.specs.Items.{item_with}
 use Rattle.decompile.specs.Settings.{setting_of}
-
--- the call answers these tests; or it is out of memory
-abbrev pub BuildsTests : {E : Type 0} → Result (Vec (Box CodeTerm Global) Global) E → List Term → Type 0
-BuildsTests result terms = IfOk result (λ tests. map boxed_term tests.items ≡ terms)
 
 -- the call answers these bindings; or it is out of memory
 abbrev pub BuildsBindings : {E : Type 0} → Result (Vec Binding Global) E → List spec.Binding → Type 0

@@ -1,5 +1,5 @@
 -- A function as the program has it, and the runs of fixed bytes by their addresses.
-use Rattle.std.specs.Prelude.{◌≡◌, ℕ, ◌+◌, ◌-◌, ◌^◌, ◌<◌, ◌≤◌, List, [], ◌∷◌, length, map, replicate, All}
+use Rattle.std.specs.Prelude.{◌≡◌, ℕ, ◌+◌, ◌^◌, ◌<◌, ◌≤◌, List, [], ◌∷◌, map, All}
 use Rattle.elf_read_spec.specs.Image.{Image}
 use Rattle.memory_spec.specs.Runs.{Run}
 use Rattle.elf_read_spec.specs.Runs.{AreRuns}
@@ -8,19 +8,9 @@ use Rattle.term_core_spec.specs.Term.{Term}
 use Rattle.graph_core_spec.specs.declared.Next.TheVariants as next
 use Rattle.graph_core_spec.specs.Graph.{Node, Cond}
 use Rattle.decompile_spec.specs.Blocks.{Setting, Of}
+use Rattle.decompile_accesses.specs.Runs.{blanked, run_of}
 use Rattle.decompile.specs.Answer.{setting}
 use Rattle.decompile.specs.declared.function.Function.{Function}
-
--- of a run of fixed bytes a graph has the first address and the last one, whatever the bytes are: a run with 0 in
--- place of its bytes
-abbrev pub blank : (start count : ℕ) → Run
-blank start count = record { start = start; bytes = replicate count 0 }
-
-abbrev pub blanked : Run → Run
-blanked run = blank run.start (length run.bytes)
-
-abbrev pub run_of : Extent → Run
-run_of e = blank e.first (e.last + 1 - e.first)
 
 -- these are the addresses of the runs of fixed bytes
 pub record HaveExtents (image : Image) (extents : List Extent) : Type 0 where

@@ -12,13 +12,13 @@ ghost use Rattle.decompile.specs.Built.{AddsBlock, AddsFlow};
 ghost use Rattle.decompile.specs.Items.{item_of};
 ghost use Rattle.decompile.specs.Settings.{setting_of, asks};
 
-use crate::accesses::access_tests;
 use crate::bindings::{call_inputs, effects, tail_inputs};
 use crate::function::{Function, graph_number};
 use crate::items::Item;
 use crate::numbers::plus;
 use attempt::attempt;
 use code_reach::Flow;
+use decompile_accesses::access_tests;
 use decompile_terms::{branch_test, returns_home};
 use graph_core::{Graph, Node};
 use graph_core_spec::Next;

@@ -6,7 +6,6 @@
 //! law of `decompile_laws`.
 #![tactic(auto)]
 
-mod accesses;
 mod bindings;
 mod blocks;
 mod callees;

@@ -1,17 +1,15 @@
 ghost use Rattle.std.specs.Prelude.{◌≡◌, ◌≤◌, ◌<◌, length, [], IfOk};
 ghost use Rattle.sat_search_spec.specs.Logs.{IsClosing};
-ghost use Rattle.sat_search.specs.Search.{IsSearching, AllHaveValue};
-ghost use Rattle.sat_search.specs.Found.{IsFound, IsFresh, IsRefuted};
+ghost use Rattle.sat_search_learning.specs.Search.{IsSearching, AllHaveValue};
+ghost use Rattle.sat_search_learning.specs.Stages.{IsFresh};
+ghost use Rattle.sat_search.specs.Found.{IsFound, IsRefuted};
 
-use crate::equivalences::equate_variables;
-use crate::loading::load;
-use crate::models::bits_of;
-use crate::order::Order;
-use crate::search::{Progress, Search, back, restart, run};
 use attempt::attempt;
-use cnf_core::{ClauseList, Cnf, MAX_VARIABLE};
+use cnf_core::{Cnf, MAX_VARIABLE};
 use sat_search_analysis::{Step, close, trim};
-use sat_search_state::{Trail, Watches};
+use sat_search_learning::{
+    Progress, Search, back, bits_of, equate_variables, load, new_search, restart, run,
+};
 use std::alloc::{AllocError, Global};
 use std::mem;
 
@@ -25,20 +23,6 @@ pub enum Found {
     Model(Vec<bool>),
     /// The limit was reached: a log of as many learnt clauses.
     Limit(Vec<Step>),
-}
-
-/// A search that has not begun.
-fn new_search(alloc: Global, variables: usize) -> Result<Search, AllocError>
-    requires { variables ≤ MAX_VARIABLE }
-    ensures { IfOk result (λ s. IsFresh s.clauses.clauses s.trail s.watches s.log.items variables) }
-{
-    Ok(Search {
-        clauses: ClauseList::new(alloc),
-        trail: attempt!(Trail::new(alloc, variables)),
-        watches: attempt!(Watches::new(alloc, variables)),
-        log: Vec::new(alloc),
-        order: attempt!(Order::new(alloc, variables)),
-    })
 }
 
 /// The trimmed log of a search that closed the clauses.

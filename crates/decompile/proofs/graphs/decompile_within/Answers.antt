@@ -11,7 +11,7 @@ use Rattle.decompile.specs.Answer.{setting, counting}
 use Rattle.decompile.specs.Counts.{numbered, counted, IsTooMany}
 use Rattle.memory_spec.specs.Runs.{Run}
 use Rattle.std.proofs.lemmas.List.{length-map}
-use Rattle.decompile.specs.Settings.{blanked, run_of}
+use Rattle.decompile_accesses.specs.Runs.{blanked, run_of}
 use Rattle.decompile.proofs.Answered.{answered, answered_size, too_many}
 use Rattle.decompile.proofs.Whole.{rising_items, sized, in_space}
 use Rattle.decompile.proofs.graphs.decompile_within.Goals as goal

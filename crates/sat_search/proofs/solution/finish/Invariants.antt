@@ -1,5 +1,5 @@
 use Rattle.std.proofs.Common.{◌≡◌, length}
-use Rattle.sat_search.specs.Search.{IsSearching}
+use Rattle.sat_search_learning.specs.Search.{IsSearching}
 use Rattle.sat_search.proofs.solution.finish.Given as goal
 
 abbrev pub invariant-loop-count : goal.invariant-loop-count

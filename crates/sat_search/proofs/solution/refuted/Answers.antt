@@ -1,7 +1,6 @@
 use Rattle.std.proofs.Common.{rules, ◌≡◌, ◌∷◌, [], sym, subst}
 use Rattle.sat_search_spec.specs.Logs.{IsClosing}
-use Rattle.sat_search.proofs.Learnt.{closing_log}
-use Rattle.sat_search.proofs.Loaded.{refuted_log}
+use Rattle.sat_search_learning.proofs.Loaded.{refuted_log}
 use Rattle.sat_search.proofs.solution.refuted.Goals as goal
 
 pub closed-requires-clause-closing : goal.closed-requires-clause-closing

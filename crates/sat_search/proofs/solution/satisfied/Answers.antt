@@ -1,7 +1,7 @@
 use Rattle.std.proofs.Common.{◌∙◌, map}
 use Rattle.clause_check_spec.specs.Log.{Step}
-use Rattle.sat_search.proofs.Values.{all_satisfied}
-use Rattle.sat_search.proofs.Levels.{live_now}
+use Rattle.sat_search_learning.proofs.Values.{all_satisfied}
+use Rattle.sat_search_learning.proofs.Levels.{live_now}
 use Rattle.sat_search.proofs.solution.satisfied.Goals as goal
 
 pub returns : goal.returns

@@ -1,4 +1,0 @@
-mod Values
-mod Levels
-mod Learnt
-mod Loaded

@@ -1,9 +1,0 @@
-use Rattle.std.proofs.Common.{rules, ◌+◌}
-use Rattle.sat_search.specs.Search.{HasValue}
-use Rattle.sat_search.proofs.Values.{one_value_more}
-use Rattle.sat_search.proofs.choice.scanned.Goals as goal
-
-pub loop-index-preserved : goal.loop-index-preserved
-loop-index-preserved c =
-    let one : HasValue c.args.trail.now (c.loop-index.index + 1) = search rules in
-    one_value_more c.args.trail.now c.loop-index.index c.loop-index.invariant one

@@ -1,4 +1,0 @@
-use Rattle.sat_search.proofs.order.Order.raise.Given as goal
-
-abbrev pub decreases-loop-place : goal.decreases-loop-place
-decreases-loop-place l = l.place

@@ -1,4 +1,0 @@
-use Rattle.sat_search.proofs.simulation.force.Given as goal
-
-abbrev pub decreases-clauses : goal.decreases-clauses
-decreases-clauses l = l.number

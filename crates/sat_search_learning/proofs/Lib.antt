@@ -1,0 +1,4 @@
+pub mod Values
+pub mod Levels
+mod Learnt
+pub mod Loaded

@@ -1,0 +1,9 @@
+use Rattle.std.proofs.Common.{◌≤◌, length}
+use Rattle.sat_search_learning.specs.Search.{IsSearching}
+use Rattle.sat_search_learning.proofs.equivalences.sweep.Given as goal
+
+abbrev pub invariant-loop-place : goal.invariant-loop-place
+invariant-loop-place l = record {
+  searching : IsSearching l.cnf l.search.clauses.clauses l.search.trail l.search.watches l.search.log.items;
+  within : length l.search.log.items ≤ l.limit;
+}
