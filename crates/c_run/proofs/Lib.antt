@@ -7,3 +7,4 @@ pub mod Proceeding
 pub mod Taking
 pub mod Entering
 pub mod Driving
+pub mod Weighing

@@ -3,3 +3,4 @@ pub mod Tasks
 pub mod Groups
 pub mod Machines
 pub mod Outcomes
+pub mod Weights

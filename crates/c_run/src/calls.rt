@@ -74,8 +74,8 @@ fn run_body(
 /// The run of a call with a number of turns: each round of a loop takes one, and each call, this
 /// one too. Nothing that is given changes: the run has a copy of the memory. It takes as much
 /// memory again as it writes, and a frame for each function that waits for another; calls and
-/// statements inside one another take no stack. Time is that of the statements performed, at most
-/// 2^64 - 1 between two turns.
+/// statements inside one another take no stack. Time is that of the statements performed, each of
+/// a body at most once between two turns.
 pub fn run<'s, 'a>(
     alloc: Global,
     unit: &'s Typed<'a>,

@@ -86,14 +86,18 @@ impl<'s, 'a> Frame<'s, 'a> {
         }
     }
 
+    /// A statement is next.
+    pub fn push_do(&mut self, action: &'s Action<'a>) -> Result<(), AllocError>
+        ensures { OnOk result (IsPushed self.old self.new (Task.Do action.entry)) }
+    {
+        self.push(Task::Do(action))
+    }
+
     /// The task that is next, if there is one.
     pub fn take(&mut self) -> Option<Task<'s, 'a>>
         ensures { IsTaken self.old self.new result }
     {
-        match self.tasks.pop() {
-            Some(task) => Some(task),
-            None => None,
-        }
+        self.tasks.pop()
     }
 
     /// A value for a local, or none.

@@ -8,7 +8,7 @@ ghost use Rattle.c_run_value.specs.Settings.{setting_of};
 ghost use Rattle.c_run.specs.Machines.{Ends, Turns, Turned, comes_to};
 ghost use Rattle.c_run.specs.Machines.{IsBegun, IsCalled, IsEntered, IsReceived};
 
-use crate::frame::{Frame, Pause, Task};
+use crate::frame::{Frame, Pause};
 use crate::running::go;
 use attempt::{Refusal, attempt};
 use c_run_value::setting::{Setting, Stop};
@@ -100,7 +100,7 @@ pub fn enter<'s, 'a>(
     let types = body.locals.as_slice();
     let mut frame = idle(alloc, types);
     attempt!(begin_locals(&mut frame.locals, types, arguments));
-    attempt!(frame.push(Task::Do(&*body.action)));
+    attempt!(frame.push_do(&*body.action));
     Ok(frame)
 }
 

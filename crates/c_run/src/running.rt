@@ -1,8 +1,9 @@
 //! The tasks of a function, one after the other.
 
-ghost use Rattle.std.specs.Prelude.{◌≡◌};
+ghost use Rattle.std.specs.Prelude.{◌≡◌, suc};
 ghost use Rattle.c_run_value.specs.Settings.{setting_of};
 ghost use Rattle.c_run.specs.Tasks.{Goes, Proceeds, after_break, follows_body};
+ghost use Rattle.c_run.specs.Weights.{IsBelow, weight_of_all, weight_of_task};
 
 use crate::frame::{Ending, Frame, Next, Pause, Task};
 use crate::statement::{act, holds};
@@ -19,8 +20,9 @@ fn rest<'s, 'a>(
     frame: &mut Frame<'s, 'a>,
     memory: &mut Memory,
 ) -> Result<Next, Refusal<Stop>>
-    ensures { Proceeds (setting_of setting.now) (Task.Rest actions.entry) Ending.Went frame.old
-        memory.old frame.new memory.new result }
+    ensures proceeds { Proceeds (setting_of setting.now) (Task.Rest actions.entry) Ending.Went
+        frame.old memory.old frame.new memory.new result }
+    ensures below { IsBelow (suc (weight_of_all actions.now)) frame.old frame.new result }
 {
     let Some((first, others)) = actions.split_first() else {
         return Ok(Next::Goes(Ending::Went));
@@ -36,8 +38,9 @@ fn test_round<'s, 'a>(
     frame: &mut Frame<'s, 'a>,
     memory: &mut Memory,
 ) -> Result<Next, Refusal<Stop>>
-    ensures { Proceeds (setting_of setting.now) (Task.Test test.entry) Ending.Went frame.old
-        memory.old frame.new memory.new result }
+    ensures proceeds { Proceeds (setting_of setting.now) (Task.Test test.entry) Ending.Went
+        frame.old memory.old frame.new memory.new result }
+    ensures below { IsBelow 1 frame.old frame.new result }
 {
     let goes_on = attempt!(holds(test, setting, frame, memory));
     if goes_on {
@@ -53,8 +56,9 @@ fn start<'s, 'a>(
     frame: &mut Frame<'s, 'a>,
     memory: &mut Memory,
 ) -> Result<Next, Refusal<Stop>>
-    ensures { Proceeds (setting_of setting.now) task.entry Ending.Went frame.old memory.old
+    ensures proceeds { Proceeds (setting_of setting.now) task.entry Ending.Went frame.old memory.old
         frame.new memory.new result }
+    ensures below { IsBelow (weight_of_task task.entry) frame.old frame.new result }
 {
     match task {
         Task::Do(action) => act(action, setting, frame, memory),
@@ -94,8 +98,9 @@ fn proceed<'s, 'a>(
     frame: &mut Frame<'s, 'a>,
     memory: &mut Memory,
 ) -> Result<Next, Refusal<Stop>>
-    ensures { Proceeds (setting_of setting.now) task.entry ending frame.old memory.old
+    ensures proceeds { Proceeds (setting_of setting.now) task.entry ending frame.old memory.old
         frame.new memory.new result }
+    ensures below { IsBelow (weight_of_task task.entry) frame.old frame.new result }
 {
     match ending {
         Ending::Went => start(task, setting, frame, memory),
@@ -118,7 +123,7 @@ pub fn go<'s, 'a>(
     ensures { Goes (setting_of setting.now) frame.old memory.old frame.new memory.new result }
 {
     let mut ending = Ending::Went;
-    for _ in 0..u64::MAX {
+    'tasks: loop {
         let Some(task) = frame.take() else {
             frame.given = None;
             return Ok(Pause::Ended);
@@ -128,5 +133,4 @@ pub fn go<'s, 'a>(
             Next::Pauses(pause) => return Ok(pause),
         }
     }
-    Err(Refusal::NoMemory)
 }

@@ -1,6 +1,6 @@
 //! What statements do in a frame.
 
-ghost use Rattle.std.specs.Prelude.{◌≡◌, OnOk, map, option_map};
+ghost use Rattle.std.specs.Prelude.{◌≡◌, ◌+◌, ◌≤◌, suc, IfSome, OnOk, map, option_map};
 ghost use Rattle.std.specs.List.{list_any};
 ghost use Rattle.c_types_spec.specs.Core as tree;
 ghost use Rattle.c_types_core.specs.Expressions.{core_of};
@@ -12,6 +12,7 @@ ghost use Rattle.c_run_value.specs.Gives.{Gives, GivesValue};
 ghost use Rattle.c_run.specs.Tasks.{Acts, Repeats, ending_of, loop_tasks, truth};
 ghost use Rattle.c_run.specs.Frames.{ArePushed, IsPassed};
 ghost use Rattle.c_run.specs.Groups.{picked, chosen_action};
+ghost use Rattle.c_run.specs.Weights.{IsBelow, weight_of, weight_of_all, weight_of_groups};
 
 use crate::frame::{Ending, Frame, Next, Pause, Task};
 use attempt::{Refusal, attempt};
@@ -65,8 +66,9 @@ fn block<'s, 'a>(
     frame: &mut Frame<'s, 'a>,
     memory: &mut Memory,
 ) -> Result<Next, Refusal<Stop>>
-    ensures { Acts (setting_of setting.now) (tree.sequence (map action_of actions.now)) frame.old
-        memory.old frame.new memory.new result }
+    ensures acts { Acts (setting_of setting.now) (tree.sequence (map action_of actions.now))
+        frame.old memory.old frame.new memory.new result }
+    ensures below { IsBelow (suc (suc (weight_of_all actions.now))) frame.old frame.new result }
 {
     attempt!(frame.push(Task::Rest(actions)), Refusal::NoMemory);
     Ok(Next::Goes(Ending::Went))
@@ -79,8 +81,9 @@ fn evaluate<'s, 'a>(
     frame: &mut Frame<'s, 'a>,
     memory: &mut Memory,
 ) -> Result<Next, Refusal<Stop>>
-    ensures { Acts (setting_of setting.now) (tree.Evaluate (core_of core.now)) frame.old
+    ensures acts { Acts (setting_of setting.now) (tree.Evaluate (core_of core.now)) frame.old
         memory.old frame.new memory.new result }
+    ensures below { IsBelow 1 frame.old frame.new result }
 {
     let _value = attempt!(value_in(core, setting, frame, memory, 0));
     Ok(Next::Goes(Ending::Went))
@@ -94,8 +97,9 @@ fn set<'s, 'a>(
     frame: &mut Frame<'s, 'a>,
     memory: &mut Memory,
 ) -> Result<Next, Refusal<Stop>>
-    ensures { Acts (setting_of setting.now) (tree.Set local (core_of core.now)) frame.old
+    ensures acts { Acts (setting_of setting.now) (tree.Set local (core_of core.now)) frame.old
         memory.old frame.new memory.new result }
+    ensures below { IsBelow 1 frame.old frame.new result }
 {
     let value = attempt!(value_in(core, setting, frame, memory, 0));
     frame.set(local, Some(value));
@@ -109,8 +113,9 @@ fn unset<'s, 'a>(
     frame: &mut Frame<'s, 'a>,
     memory: &mut Memory,
 ) -> Result<Next, Refusal<Stop>>
-    ensures { Acts (setting_of setting.now) (tree.Unset local) frame.old
+    ensures acts { Acts (setting_of setting.now) (tree.Unset local) frame.old
         memory.old frame.new memory.new result }
+    ensures below { IsBelow 1 frame.old frame.new result }
 {
     frame.set(local, None);
     Ok(Next::Goes(Ending::Went))
@@ -127,8 +132,9 @@ fn store<'s, 'a>(
     frame: &mut Frame<'s, 'a>,
     memory: &mut Memory,
 ) -> Result<Next, Refusal<Stop>>
-    ensures { Acts (setting_of setting.now) (tree.Store of (core_of address.now) displacement
+    ensures acts { Acts (setting_of setting.now) (tree.Store of (core_of address.now) displacement
         (core_of core.now) offset) frame.old memory.old frame.new memory.new result }
+    ensures below { IsBelow 1 frame.old frame.new result }
 {
     let pointer = attempt!(value_in(address, setting, frame, memory, 0));
     let place = attempt!(address_past(pointer, displacement));
@@ -166,8 +172,9 @@ fn call<'s, 'a>(
     frame: &mut Frame<'s, 'a>,
     memory: &mut Memory,
 ) -> Result<Next, Refusal<Stop>>
-    ensures { Acts (setting_of setting.now) (tree.Call number function.now (map (λ b. core_of
+    ensures acts { Acts (setting_of setting.now) (tree.Call number function.now (map (λ b. core_of
         b.value) arguments.now) local) frame.old memory.old frame.new memory.new result }
+    ensures below { IsBelow 1 frame.old frame.new result }
 {
     attempt!(pass(arguments, setting, frame, memory));
     frame.callee = function;
@@ -184,15 +191,17 @@ fn choose<'s, 'a>(
     frame: &mut Frame<'s, 'a>,
     memory: &mut Memory,
 ) -> Result<Next, Refusal<Stop>>
-    ensures { Acts (setting_of setting.now) (tree.If (core_of test.now) (action_of first.now)
+    ensures acts { Acts (setting_of setting.now) (tree.If (core_of test.now) (action_of first.now)
         (action_of second.now)) frame.old memory.old frame.new memory.new result }
+    ensures below { IsBelow (suc (weight_of first.now + weight_of second.now)) frame.old frame.new
+        result }
 {
     let is_first = attempt!(holds(test, setting, frame, memory));
     if is_first {
-        attempt!(frame.push(Task::Do(first)), Refusal::NoMemory);
+        attempt!(frame.push_do(first), Refusal::NoMemory);
         return Ok(Next::Goes(Ending::Went));
     }
-    attempt!(frame.push(Task::Do(second)), Refusal::NoMemory);
+    attempt!(frame.push_do(second), Refusal::NoMemory);
     Ok(Next::Goes(Ending::Went))
 }
 
@@ -209,7 +218,7 @@ fn test_first<'s, 'a>(
 {
     attempt!(frame.push(Task::Repeat(action)));
     attempt!(frame.push(Task::Step(step)));
-    attempt!(frame.push(Task::Do(body)));
+    attempt!(frame.push_do(body));
     attempt!(frame.push(Task::Test(test)));
     Ok(())
 }
@@ -227,7 +236,7 @@ fn test_last<'s, 'a>(
 {
     attempt!(frame.push(Task::Repeat(action)));
     attempt!(frame.push(Task::Test(test)));
-    attempt!(frame.push(Task::Do(body)));
+    attempt!(frame.push_do(body));
     Ok(())
 }
 
@@ -242,8 +251,9 @@ fn repeat<'s, 'a>(
     frame: &mut Frame<'s, 'a>,
     memory: &mut Memory,
 ) -> Result<Next, Refusal<Stop>>
-    ensures { Repeats (setting_of setting.now) place action.entry test.entry step.entry body.entry
-        frame.old memory.old frame.new memory.new result }
+    ensures repeats { Repeats (setting_of setting.now) place action.entry test.entry step.entry
+        body.entry frame.old memory.old frame.new memory.new result }
+    ensures below { IsBelow 1 frame.old frame.new result }
 {
     match place {
         TestPlace::Before => {
@@ -270,8 +280,9 @@ fn give_back<'s, 'a>(
     frame: &mut Frame<'s, 'a>,
     memory: &mut Memory,
 ) -> Result<Next, Refusal<Stop>>
-    ensures { Acts (setting_of setting.now) (tree.Return (core_in value.now)) frame.old
+    ensures acts { Acts (setting_of setting.now) (tree.Return (core_in value.now)) frame.old
         memory.old frame.new memory.new result }
+    ensures below { IsBelow 1 frame.old frame.new result }
 {
     match value {
         Some(core) => {
@@ -312,8 +323,9 @@ fn has_label(labels: &[Option<i128>], label: Option<i128>) -> bool
 /// What the first group with a label does.
 #[tactic(auto, using(c_types_core::proofs::ActionViews::action_views))]
 fn labelled<'b, 'a>(groups: &'b [Group<'a>], label: Option<i128>) -> Option<&'b Action<'a>>
-    ensures { option_map (λ a. action_of a.now) result ≡ picked label (groups_in (map group_of
-        groups.now)) }
+    ensures group { option_map (λ a. action_of a.now) result ≡ picked label (groups_in (map
+        group_of groups.now)) }
+    ensures below { IfSome result (λ a. weight_of a.now ≤ weight_of_groups groups.now) }
 {
     for group in groups {
         if has_label(&group.labels, label) {
@@ -325,8 +337,9 @@ fn labelled<'b, 'a>(groups: &'b [Group<'a>], label: Option<i128>) -> Option<&'b 
 
 /// What the group with a value does, else that with `default`.
 fn chosen<'b, 'a>(groups: &'b [Group<'a>], value: i128) -> Option<&'b Action<'a>>
-    ensures { option_map (λ a. action_of a.now) result ≡ chosen_action value (groups_in (map
+    ensures group { option_map (λ a. action_of a.now) result ≡ chosen_action value (groups_in (map
         group_of groups.now)) }
+    ensures below { IfSome result (λ a. weight_of a.now ≤ weight_of_groups groups.now) }
 {
     match labelled(groups, Some(value)) {
         Some(action) => Some(action),
@@ -342,15 +355,16 @@ fn switch<'s, 'a>(
     frame: &mut Frame<'s, 'a>,
     memory: &mut Memory,
 ) -> Result<Next, Refusal<Stop>>
-    ensures { Acts (setting_of setting.now) (tree.Switch (core_of test.now) (groups_in (map
+    ensures acts { Acts (setting_of setting.now) (tree.Switch (core_of test.now) (groups_in (map
         group_of groups.now))) frame.old memory.old frame.new memory.new result }
+    ensures below { IsBelow (suc (suc (weight_of_groups groups.now))) frame.old frame.new result }
 {
     let value = attempt!(value_in(test, setting, frame, memory, 0));
     let Some(action) = chosen(groups, value) else {
         return Ok(Next::Goes(Ending::Went));
     };
     attempt!(frame.push(Task::Switch), Refusal::NoMemory);
-    attempt!(frame.push(Task::Do(action)), Refusal::NoMemory);
+    attempt!(frame.push_do(action), Refusal::NoMemory);
     Ok(Next::Goes(Ending::Went))
 }
 
@@ -372,8 +386,9 @@ pub fn act<'s, 'a>(
     frame: &mut Frame<'s, 'a>,
     memory: &mut Memory,
 ) -> Result<Next, Refusal<Stop>>
-    ensures { Acts (setting_of setting.now) (action_of action.now) frame.old memory.old frame.new
-        memory.new result }
+    ensures acts { Acts (setting_of setting.now) (action_of action.now) frame.old memory.old
+        frame.new memory.new result }
+    ensures below { IsBelow (weight_of action.now) frame.old frame.new result }
 {
     match action {
         Action::Block(actions) => block(actions, setting, frame, memory),

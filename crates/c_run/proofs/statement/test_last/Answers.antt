@@ -4,5 +4,5 @@ use Rattle.c_run.proofs.Acting.{and_pushed}
 use Rattle.c_run.proofs.statement.test_last.Goals as goal
 
 pub returns-4 : goal.returns-4
-returns-4 c = and_pushed c.args.frame.now c.push-2.new.self c.push-3.new.self (task.Repeat c.args.action ∷ task.Test c.args.test ∷ []) (task.Do c.args.body)
+returns-4 c = and_pushed c.args.frame.now c.push-2.new.self c.push_do.new.self (task.Repeat c.args.action ∷ task.Test c.args.test ∷ []) (task.Do c.args.body)
     (and_pushed c.args.frame.now c.push.new.self c.push-2.new.self (task.Repeat c.args.action ∷ []) (task.Test c.args.test) c.in-Ok-attempt.ensures c.in-Ok-attempt-2.ensures) c.in-Ok-attempt-3.ensures
