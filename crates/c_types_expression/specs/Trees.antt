@@ -1,9 +1,11 @@
 -- Lists of trees behind pointers, and parts of enumerations.
-use Rattle.std.specs.Prelude.{ℕ, ℤ, pos, ◌+ℤ◌, int_lt, ◌||◌, Bool, List, map, Option, Some, None}
+use Rattle.std.specs.Prelude.{◌≡◌, ℕ, ℤ, pos, ◌+ℤ◌, int_lt, ◌||◌, Bool, List, map, Option, Some, None}
 use Rattle.std.specs.declared.alloc.Global.{Global}
 use Rattle.std.specs.declared.boxed.Box.{Box}
+use Rattle.c_syntax_spec.specs.declared.BinaryOperator.{BinaryOperator}
 use Rattle.c_syntax_spec.specs.Expression as tree
 use Rattle.c_syntax.specs.declared.expression.Expression.{Expression}
+use Rattle.c_syntax.specs.declared.expression.Expression.TheVariants as made
 use Rattle.c_syntax.specs.declared.expression.Constant.{Constant}
 use Rattle.c_syntax.specs.declared.expression.Declarator.{Declarator}
 use Rattle.c_syntax.specs.declared.expression.Member.{Member}
@@ -14,6 +16,17 @@ use Rattle.c_types_spec.specs.Types.{Layout}
 use Rattle.c_types_spec.specs.Declarations.{enumerator}
 use Rattle.c_types_spec.specs.Expressions.{value, specifiers, member_declarators}
 use Rattle.c_types_expression.specs.declared.expression.Next.{Next}
+
+-- expressions that are read by functions of their own
+abbrev pub IsIndex : Expression → Type 0
+IsIndex x = (base : Box Expression Global) × (index : Box Expression Global) × (offset : ℕ) × (x ≡ made.Index base index offset)
+
+abbrev pub IsBinary : Expression → Type 0
+IsBinary x = (operator : BinaryOperator) × (left : Box Expression Global) × (right : Box Expression Global) × (offset : ℕ) × (x ≡ made.Binary operator left right offset)
+
+abbrev pub IsConditional : Expression → Type 0
+IsConditional x =
+    (test : Box Expression Global) × (first : Box Expression Global) × (second : Box Expression Global) × (offset : ℕ) × (x ≡ made.Conditional test first second offset)
 
 abbrev pub unboxed : {X : Type 0} → List (Box X Global) → List X
 unboxed boxes = map (λ b. b.value) boxes

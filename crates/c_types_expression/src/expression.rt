@@ -121,7 +121,7 @@ pub fn value<'a>(
     value_of(alloc, given)
 }
 
-/// `base[index]`. Others are not read here.
+/// `base[index]`
 #[cycle(expressions)]
 #[tactic(auto, unfolding(c_types_spec::specs::Expressions::expression), using(c_syntax::proofs::Views::views))]
 fn index<'a>(
@@ -130,6 +130,7 @@ fn index<'a>(
     place: Position,
     state: &mut State<'a>,
 ) -> Result<Operand<'a>, Refusal<TypeFault>>
+    requires { trees.IsIndex x.now }
     ensures { Runs operand_of result state.new (rule.expression (expression_of x.now) place
         (state_of state.old)) }
 {
@@ -143,21 +144,11 @@ fn index<'a>(
             let b = attempt_or_drop!(value_of(alloc, y); a);
             subscript(alloc, state.structs(), (first, second), a, b, *offset)
         }
-        Expression::Named(_)
-        | Expression::Number(_, _, _)
-        | Expression::Character(_, _)
-        | Expression::Bracketed(_, _)
-        | Expression::Member(_, _, _, _)
-        | Expression::Unary(_, _, _)
-        | Expression::Sizeof(_, _)
-        | Expression::SizeofType(_, _)
-        | Expression::Cast(_, _, _)
-        | Expression::Binary(_, _, _, _)
-        | Expression::Conditional(_, _, _, _) => Err(Refusal::NoMemory),
+        _ => unreachable!(),
     }
 }
 
-/// An operator between its operands. Others are not read here.
+/// An operator between its operands.
 #[cycle(expressions)]
 #[tactic(auto, using(c_syntax::proofs::Views::views, crate::proofs::Values::by_value))]
 fn binary<'a>(
@@ -166,6 +157,7 @@ fn binary<'a>(
     place: Position,
     state: &mut State<'a>,
 ) -> Result<Operand<'a>, Refusal<TypeFault>>
+    requires { trees.IsBinary x.now }
     ensures { Runs operand_of result state.new (rule.expression (expression_of x.now) place
         (state_of state.old)) }
 {
@@ -175,21 +167,11 @@ fn binary<'a>(
             let b = attempt_or_drop!(value(alloc, right, state); a);
             binary_rule(alloc, *operator, state.structs(), a, b, *offset)
         }
-        Expression::Named(_)
-        | Expression::Number(_, _, _)
-        | Expression::Character(_, _)
-        | Expression::Bracketed(_, _)
-        | Expression::Index(_, _, _)
-        | Expression::Member(_, _, _, _)
-        | Expression::Unary(_, _, _)
-        | Expression::Sizeof(_, _)
-        | Expression::SizeofType(_, _)
-        | Expression::Cast(_, _, _)
-        | Expression::Conditional(_, _, _, _) => Err(Refusal::NoMemory),
+        _ => unreachable!(),
     }
 }
 
-/// `test ? first : second`. Others are not read here.
+/// `test ? first : second`
 #[cycle(expressions)]
 #[tactic(auto, using(c_syntax::proofs::Views::views, crate::proofs::Values::by_value))]
 fn choice<'a>(
@@ -198,6 +180,7 @@ fn choice<'a>(
     place: Position,
     state: &mut State<'a>,
 ) -> Result<Operand<'a>, Refusal<TypeFault>>
+    requires { trees.IsConditional x.now }
     ensures { Runs operand_of result state.new (rule.expression (expression_of x.now) place
         (state_of state.old)) }
 {
@@ -208,17 +191,7 @@ fn choice<'a>(
             let b = attempt_or_drop!(value(alloc, second, state); c, a);
             conditional(alloc, c, a, b, *offset)
         }
-        Expression::Named(_)
-        | Expression::Number(_, _, _)
-        | Expression::Character(_, _)
-        | Expression::Bracketed(_, _)
-        | Expression::Index(_, _, _)
-        | Expression::Member(_, _, _, _)
-        | Expression::Unary(_, _, _)
-        | Expression::Sizeof(_, _)
-        | Expression::SizeofType(_, _)
-        | Expression::Cast(_, _, _)
-        | Expression::Binary(_, _, _, _) => Err(Refusal::NoMemory),
+        _ => unreachable!(),
     }
 }
 
@@ -492,7 +465,7 @@ fn enumerator_row<'a>(
 {
     let given = attempt!(constant_value(alloc, item, next.value, state));
     attempt!(enumerator(item.name, given, state));
-    next.value = attempt!(one_more(given));
+    next.value = attempt!(one_more(given), Refusal::NoMemory);
     next.is_negative = is_negative(next.is_negative, given);
     Ok(())
 }

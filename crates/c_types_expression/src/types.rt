@@ -1,11 +1,12 @@
 //! Types of declared names (6.7.6).
 
-ghost use Rattle.std.specs.Prelude.{◌≡◌, ◌+ℤ◌, Ok, pos};
+ghost use Rattle.std.specs.Prelude.{◌≡◌, ◌≤◌, ◌^◌, ◌+ℤ◌, Ok, nat_abs, pos};
+ghost use Rattle.c_types_core.specs.Widths.{IsWithin};
 ghost use Rattle.c_types_spec.specs.Expressions as rule;
 ghost use Rattle.c_types_spec.specs.Operands as operands;
 ghost use Rattle.c_types_spec.specs.Types as types;
 ghost use Rattle.c_types_layout.specs.Types.{type_of};
-ghost use Rattle.c_types_operator.specs.Gives.{Gives};
+ghost use Rattle.c_types_operator.specs.Gives.{Gives, GivesUnless};
 ghost use Rattle.c_types_operator.specs.Operands.{core_in, valued_of};
 
 use attempt::{Refusal, attempt};
@@ -16,7 +17,7 @@ use c_types_layout::types::CType;
 use c_types_operator::operand::{Valued, type_or_memory};
 use c_types_operator::value::constant_of;
 use c_types_spec::{INT_WIDTH, Scalar, TypeFaultKind, WIDE_WIDTH};
-use std::alloc::Global;
+use std::alloc::{AllocError, Global};
 
 /// The scalar of an integer type.
 pub fn integer_scalar(of: IntegerType) -> Scalar
@@ -75,9 +76,9 @@ fn arrays_of(lengths: &[u64], of: CType) -> Result<CType, Refusal<TypeFault>>
     Ok(made)
 }
 
-/// The length of an array, which is above 0.
+/// The length of an array, which is above 0; out of memory exactly where no `u64` holds it.
 fn length_of(value: i128, offset: usize) -> Result<u64, Refusal<TypeFault>>
-    ensures { Gives (λ n. n) result (rule.length_of value offset) }
+    ensures { GivesUnless (2 ^ 64 ≤ nat_abs value) (λ n. n) result (rule.length_of value offset) }
 {
     if value <= 0 {
         return Err(Refusal::Fault(TypeFault::At(TypeFaultKind::Mismatch, offset)));
@@ -142,12 +143,12 @@ pub fn declared_type(
     array_of(is_open, lengths, base)
 }
 
-/// The number after this one.
-pub(crate) fn one_more(value: i128) -> Result<i128, Refusal<TypeFault>>
-    ensures { Gives (λ v. v) result (Ok (value +ℤ pos 1)) }
+/// The number after this one; out of memory exactly where no `i128` holds it.
+pub(crate) fn one_more(value: i128) -> Result<i128, AllocError>
+    ensures { IsWithin (value +ℤ pos 1) (value +ℤ pos 1) result }
 {
     match value.checked_add(1) {
         Some(sum) => Ok(sum),
-        None => Err(Refusal::NoMemory),
+        None => Err(AllocError),
     }
 }

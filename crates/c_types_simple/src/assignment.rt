@@ -1,6 +1,6 @@
 //! Assignments (6.5.16), and `++` and `--` (6.5.2.4, 6.5.3.1).
 
-ghost use Rattle.std.specs.Prelude.{◌≡◌, Ok};
+ghost use Rattle.std.specs.Prelude.{◌≡◌, Ok, true};
 ghost use Rattle.c_types_spec.specs.Operands as operands;
 ghost use Rattle.c_types_spec.specs.Statements as rule;
 ghost use Rattle.c_types_spec.specs.Types as types;
@@ -145,14 +145,12 @@ fn target<'a>(alloc: Global, of: CType, offset: usize) -> Result<Valued<'a>, Ref
 /// The value of an object that is assigned to.
 #[tactic(auto, unfolding(c_types_operator::specs::Operands::operand_of, c_types_spec::specs::Statements::current, c_types_spec::specs::Operands::value_of))]
 fn current<'a>(alloc: Global, x: &Operand<'a>) -> Result<Valued<'a>, Refusal<TypeFault>>
+    requires { rule.is_assignable (operand_of x.now) ≡ true }
     ensures { Gives valued_of result (rule.current (operand_of x.now)) }
 {
     let of = attempt!(type_or_memory(x.of.copy(alloc)));
     match &x.category {
-        Category::Value(_) => {
-            drop(of);
-            Err(Refusal::NoMemory)
-        }
+        Category::Value(_) => unreachable!(),
         Category::InLocal(local) => read_local(alloc, of, *local, x.offset),
         Category::InMemory(_, _) => target(alloc, of, x.offset),
     }
@@ -172,7 +170,8 @@ pub fn compound<'a>(
         (rule.compound operator (operand_of x.entry) (valued_of
         b.entry) offset (state_of state.now)) }
 {
-    if !is_assignable(&x) {
+    let is_object = is_assignable(&x);
+    if !is_object {
         drop(x);
         drop(b);
         return Err(Refusal::Fault(TypeFault::At(TypeFaultKind::NotLvalue, offset)));

@@ -25,6 +25,7 @@ use attempt::{Refusal, attempt};
 use c_syntax::expression::{Expression, Name};
 use c_syntax::simple::Call;
 use c_types_core::action::Action;
+use c_types_core::counts::sum;
 use c_types_core::expression::Core;
 use c_types_core::fault::TypeFault;
 use c_types_declaration::faults::first_fault;
@@ -261,14 +262,10 @@ fn further_local<'a>(
 {
     let copy = attempt!(type_or_memory(made.of.copy(alloc)));
     let count = attempt!(state.new_result(copy));
-    match context.declared_locals.checked_add(count) {
-        Some(local) => {
-            let of = attempt!(type_or_memory(made.of.copy(alloc)));
-            let v = attempt!(read_local(alloc, of, local, made.offset));
-            Ok((local, v))
-        }
-        None => Err(Refusal::NoMemory),
-    }
+    let local = attempt!(sum(context.declared_locals, count), Refusal::NoMemory);
+    let of = attempt!(type_or_memory(made.of.copy(alloc)));
+    let v = attempt!(read_local(alloc, of, local, made.offset));
+    Ok((local, v))
 }
 
 /// Two actions, one after the other.

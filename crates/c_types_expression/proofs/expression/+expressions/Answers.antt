@@ -1,4 +1,4 @@
-use Rattle.std.proofs.Common.{subst, arith}
+use Rattle.std.proofs.Common.{subst, arith, rules}
 use Rattle.c_types_spec.specs.Expressions as rule
 use Rattle.c_types_layout.specs.Types.{type_of}
 use Rattle.c_types_scope.specs.States.{state_of, Runs}
@@ -26,3 +26,21 @@ pub members-returns-in-Err : goal.members-returns-in-Err
 members-returns-in-Err t c =
     members-failed c.args.list.now c.loop-item.item-index c.item-item.result c.deref.result.now (layout_of c.loop-item.layout) (state_of c.loop-item.state) _ c.in-Err.fault (λ _. layout_of c.member_row.new.layout) c.member_row.new.state
     c.item-item.is c.deref.ensures (omega arith) c.in-Err.ensures c.loop-item.invariant
+
+pub expression-index-requires : goal.expression-index-requires
+expression-index-requires t c = (search rules, (_, _, _, c.in-Index.is))
+
+pub expression-binary-requires : goal.expression-binary-requires
+expression-binary-requires t c = (search rules, (_, _, _, _, c.in-Binary.is))
+
+pub expression-choice-requires : goal.expression-choice-requires
+expression-choice-requires t c = (search rules, (_, _, _, _, c.in-Conditional.is))
+
+pub index-unreachable-requires : goal.index-unreachable-requires
+index-unreachable-requires t c = c.in_default.not-Index c.requires.0 c.requires.1 c.requires.2 c.requires.3
+
+pub binary-unreachable-requires : goal.binary-unreachable-requires
+binary-unreachable-requires t c = c.in_default.not-Binary c.requires.0 c.requires.1 c.requires.2 c.requires.3 c.requires.4
+
+pub choice-unreachable-requires : goal.choice-unreachable-requires
+choice-unreachable-requires t c = c.in_default.not-Conditional c.requires.0 c.requires.1 c.requires.2 c.requires.3 c.requires.4
