@@ -9,10 +9,10 @@ ghost use Rattle.rv_machine.specs.Effects.{is_aligned as aligned_effect, IsAlign
 ghost use Rattle.rv_machine.specs.Effects.{first_source, second_source};
 
 use crate::Effect;
-use crate::arithmetic::{arithmetic, holds};
 use rv_instr::{
     ArithmeticOperation, ImmediateOperation, Instr, LoadKind, Reg, ShiftOperation, StoreKind,
 };
+use rv_machine_arithmetic::{arithmetic, holds};
 
 /// What an instruction does. `a` and `b` are the values of the registers that it reads, as
 /// `sources` names them, and `pc` is its address.

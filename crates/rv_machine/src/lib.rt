@@ -9,7 +9,6 @@
 
 #![tactic(auto)]
 
-mod arithmetic;
 pub mod effects;
 mod machine;
 mod memory;
