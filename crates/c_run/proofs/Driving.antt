@@ -10,7 +10,7 @@ use Rattle.c_types_core.specs.declared.action.Action as kept
 use Rattle.c_types_core.specs.Actions.{action_of}
 use Rattle.c_run_spec.specs.declared.Guard.{Guard}
 use Rattle.c_run_spec.specs.Setting.{Setting}
-use Rattle.c_run_spec.specs.Execution.{State, state, More, Went, Called, Unfinished, Failed, Returned, after_call}
+use Rattle.c_run_spec.specs.Execution.{State, state, Went, Called, Unfinished, Failed, Returned, after_call}
 use Rattle.c_run_spec.specs.Calls as spec
 use Rattle.c_run_spec.specs.Calls.{returned, outcome_of, locals_at_entry, body_named, runs, c_run}
 use Rattle.c_run_laws.specs.Depth.{called, performed}

@@ -1,12 +1,12 @@
 -- The tasks of a frame, taken one after the other.
-use Rattle.std.proofs.Common.{◌≡◌, ℕ, Option, Some, None, List, [], refl, sym, ap, subst, ◌∙◌}
+use Rattle.std.proofs.Common.{◌≡◌, ℕ, Option, Some, None, List, refl, sym, ap, subst, ◌∙◌}
 use Rattle.std.specs.Prelude.{ℤ, Vec, Ok, Err}
 use Rattle.std.specs.Borrow.{Bor}
 use Rattle.std.specs.declared.alloc.Global.{Global}
 use Rattle.memory_spec.specs.Memory.{Memory}
 use Rattle.c_types_spec.specs.declared.Scalar.{Scalar}
 use Rattle.c_run_spec.specs.Setting.{Setting}
-use Rattle.c_run_spec.specs.Execution.{State, state, Flow, Went, Gave, Returned}
+use Rattle.c_run_spec.specs.Execution.{State, state, Flow, Went, Returned}
 use Rattle.c_run_spec.specs.Calls.{returned}
 use Rattle.attempt.specs.declared.refusal.Refusal.{Refusal}
 use Rattle.attempt.specs.declared.refusal.Refusal.TheVariants.{Fault, NoMemory}

@@ -1,12 +1,12 @@
 -- Each task weighs more than what it leaves.
-use Rattle.std.proofs.Common.{◌≡◌, ℕ, zero, suc, ◌+◌, ◌<◌, ◌≤◌, Option, Some, None, List, [], ◌∷◌, ◌++◌, length, drop, get_or, refl, sym, ap, subst, ◌∙◌, arith}
-use Rattle.std.specs.Prelude.{ℤ, map, Vec, Result, Ok, Err}
+use Rattle.std.proofs.Common.{◌≡◌, ℕ, zero, suc, ◌+◌, ◌<◌, ◌≤◌, Option, Some, List, [], ◌∷◌, ◌++◌, length, get_or, sym, ap, subst, ◌∙◌, arith}
+use Rattle.std.specs.Prelude.{map, Vec, Result, Ok, Err}
 use Rattle.std.specs.Borrow.{Bor}
 use Rattle.std.specs.declared.alloc.Global.{Global}
 use Rattle.std.specs.declared.boxed.Box.{Box}
 use Rattle.std.proofs.lemmas.List.{map-append}
 use Rattle.c_types_core.specs.declared.expression.Core.{Core}
-use Rattle.c_types_core.specs.declared.action.Action.{Action, out-Action, fold_out-Action, fold-roll-Action}
+use Rattle.c_types_core.specs.declared.action.Action.{Action, fold_out-Action, fold-roll-Action}
 use Rattle.c_types_core.specs.declared.action.Action.TheOpen as layer
 use Rattle.c_types_core.specs.declared.action.Action.TheVariants as made
 use Rattle.c_types_core.specs.declared.action.Group.{Group, out-Group, fold_out-Group}
@@ -66,10 +66,6 @@ tasks-append ts us = ap total (map-append weight_of_task ts us) ∙ total-append
 one_task : (t : Task) → weight_of_tasks (t ∷ []) ≡ weight_of_task t
 unfolding weight_of_tasks total
 one_task t = omega arith
-
-two_tasks : (t u : Task) → weight_of_tasks (t ∷ u ∷ []) ≡ weight_of_task t + weight_of_task u
-unfolding weight_of_tasks total
-two_tasks t u = omega arith
 
 -- ---- what follows
 

@@ -1,5 +1,5 @@
 -- What a function still has to do, as the program keeps it: what its tasks make of the flow that reaches them.
-use Rattle.std.specs.Prelude.{◌≡◌, ℕ, zero, suc, Bool, true, false, not, ℤ, List, [], ◌∷◌, map, Result, Ok, Err}
+use Rattle.std.specs.Prelude.{◌≡◌, ℕ, zero, suc, Bool, true, false, not, List, [], ◌∷◌, map, Result, Ok, Err}
 use Rattle.std.specs.Borrow.{Bor}
 use Rattle.memory_spec.specs.Memory.{Memory}
 use Rattle.c_types_spec.specs.declared.Scalar.{Scalar}

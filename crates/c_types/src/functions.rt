@@ -19,6 +19,7 @@ use attempt::{Refusal, attempt};
 use c_syntax::statement::Part;
 use c_syntax::unit::FunctionDeclarator;
 use c_types_core::action::Action;
+use c_types_core::counts::sum;
 use c_types_core::fault::TypeFault;
 use c_types_declaration::declare::function;
 use c_types_declaration::sizes::is_void;
@@ -31,7 +32,7 @@ use c_types_scope::state::{State, push};
 use c_types_spec::Scalar;
 use c_types_statement::calls::both;
 use c_types_statement::context::{Context, action_or_memory};
-use c_types_statement::counts::{locals_of, sum};
+use c_types_statement::counts::locals_of;
 use c_types_statement::statement::parts;
 use std::alloc::Global;
 
@@ -205,8 +206,8 @@ fn function_of_types<'a>(
         given.now) (types_in types) (type_of base.now) (parts_of (map part_of list.now)) close
         (state_of state.old)) }
 {
-    let count = attempt!(locals_of(list));
-    let declared_locals = attempt!(sum(types.len(), count));
+    let count = attempt!(locals_of(list), Refusal::NoMemory);
+    let declared_locals = attempt!(sum(types.len(), count), Refusal::NoMemory);
     let of = attempt!(signature(alloc, types, given.pointers, base));
     let made = attempt!(function_type(alloc, &of));
     let returned = attempt!(type_or_memory(of.returned.copy(alloc)));

@@ -3,7 +3,7 @@ use Rattle.std.proofs.Common.{true≢false, IsTrue, ◌≡◌, ℕ, zero, suc, �
 use Rattle.std.specs.List.{cons_option}
 use Rattle.std.proofs.lemmas.Option.{none-some, same_Some}
 use Rattle.c_token_spec.specs.Words.{entry_of}
-use Rattle.c_syntax_spec.specs.Expression.{Name, Declarator}
+use Rattle.c_syntax_spec.specs.Expression.{Name, Declarator, Specifiers}
 use Rattle.c_syntax_spec.specs.Unit as tree
 use Rattle.c_types_spec.specs.declared.Scalar.{Scalar}
 use Rattle.c_types_spec.specs.Types.{CType, scalar_of, is_void}
@@ -340,6 +340,19 @@ external_declarations-goes (first ∷ rest) done st h fine =
 
 start-outside : Outside start
 start-outside = (record { outer = tt; inner = tt; scalars = tt; others = tt; file_tags = tt; block_tags = tt; small_structs = tt }, refl)
+
+-- the next body has a name of its own
+pub new_body : (unit : tree.TranslationUnit) (done : List Body) (st : State) → external_declarations unit [] start ≡ Ok (done, st)
+    → (words : Specifiers) (base : CType) (here : State) → specifiers words st ≡ Ok (base, here)
+    → (given : tree.FunctionDeclarator) (body : tree.Parts) (close : ℕ) (made : Body) (after : State) → defined_function given base body close here ≡ Ok (made, after)
+    → Each (λ (x : Body). x.name ≡ made.name → ⊥) done
+new_body unit done st reached words base here e given body close made after f =
+    let k = subst (λ r. IfOk r (GoesOn start)) reached (external_declarations-goes unit [] start start-outside (tt, tt)) in
+    let outside : Outside st = (k.0.holds, k.0.no_blocks) in
+    let m = subst (λ r. IfOk r (MakesTo IsCType st)) e ((specifiers-makes None words).makes st k.0.holds) in
+    let now = goes_grows st here outside m.0.grows in
+    let l = subst (λ r. IfOk r (λ made. Goes here made.1 × IsFine made.1.names.file made.0 × IsNew here.names.file made.0.name)) f (defined_function-goes given base body close here m.1 (now.holds, now.no_blocks)) in
+    each_more (IsFine st.names.file) (λ (x : Body). x.name ≡ made.name → ⊥) done (λ x fine. l.2 x.name (bodied_later st.names.file here.names.file x.name now.known fine.1)) k.1.0
 
 typed_core-declares : (made : List Body × State) → Declares (typed_core made) made.1.names.file
 typed_core-declares made = record { lists_objects = globals_in-found made.1.structs made.1.names.file; lists_functions = functions_in-found made.1.names.file }

@@ -1,4 +1,3 @@
-pub mod Steps
 pub mod Lists
 pub mod LabelSets
 pub mod GroupLabels

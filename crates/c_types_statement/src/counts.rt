@@ -1,25 +1,16 @@
-//! How many locals statements declare.
+//! How many locals statements declare; out of memory where no `usize` holds it.
 
-ghost use Rattle.std.specs.Prelude.{◌≡◌, ◌+◌, ◌∷◌, [], Ok, map};
+ghost use Rattle.std.specs.Prelude.{◌≡◌, ◌∷◌, [], map};
 ghost use Rattle.c_syntax.specs.Locals.{start_of};
 ghost use Rattle.c_syntax.specs.Statements.{statement_of, part_of, parts_of, group_of, groups_of};
 ghost use Rattle.c_types_spec.specs.Statements as rule;
+ghost use Rattle.c_types_core.specs.Counted.{IsCounted};
 ghost use Rattle.c_types_expression.specs.Trees.{unboxed};
-ghost use Rattle.c_types_operator.specs.Gives.{Gives};
 
-use attempt::{Refusal, attempt};
+use attempt::attempt;
 use c_syntax::statement::{ForStart, Group, Part, Statement};
-use c_types_core::fault::TypeFault;
-
-/// A sum; out of memory where it is no `usize`.
-pub fn sum(a: usize, b: usize) -> Result<usize, Refusal<TypeFault>>
-    ensures { Gives (λ n. n) result (Ok (a + b)) }
-{
-    match a.checked_add(b) {
-        Some(sum) => Ok(sum),
-        None => Err(Refusal::NoMemory),
-    }
-}
+use c_types_core::counts::sum;
+use std::alloc::AllocError;
 
 /// How many locals the start of a `for` declares.
 #[tactic(auto, using(crate::proofs::Declared::declared))]
@@ -35,8 +26,8 @@ fn locals_at_start(start: &ForStart<'_>) -> usize
 /// How many locals a statement declares.
 #[cycle(counts)]
 #[tactic(auto, unfolding(c_types_spec::specs::Statements::locals_in), using(c_syntax::proofs::StatementViews::statement_views))]
-fn locals_in(x: &Statement<'_>) -> Result<usize, Refusal<TypeFault>>
-    ensures { Gives (λ n. n) result (Ok (rule.locals_in (statement_of x.now))) }
+fn locals_in(x: &Statement<'_>) -> Result<usize, AllocError>
+    ensures { IsCounted (rule.locals_in (statement_of x.now)) result }
 {
     match x {
         Statement::Block(parts, _) => locals_of(parts.as_slice()),
@@ -61,8 +52,8 @@ fn locals_in(x: &Statement<'_>) -> Result<usize, Refusal<TypeFault>>
 /// How many locals one part declares.
 #[cycle(counts)]
 #[tactic(auto, unfolding(c_types_spec::specs::Statements::locals_of), using(c_syntax::proofs::StatementViews::statement_views, crate::proofs::Declared::declared))]
-fn locals_of_part(part: &Part<'_>) -> Result<usize, Refusal<TypeFault>>
-    ensures { Gives (λ n. n) result (Ok (rule.locals_of (parts_of (part_of part.now ∷ [])))) }
+fn locals_of_part(part: &Part<'_>) -> Result<usize, AllocError>
+    ensures { IsCounted (rule.locals_of (parts_of (part_of part.now ∷ []))) result }
 {
     match part {
         Part::Locals(locals) => Ok(locals.locals.len()),
@@ -73,8 +64,8 @@ fn locals_of_part(part: &Part<'_>) -> Result<usize, Refusal<TypeFault>>
 /// How many locals the parts of a block declare.
 #[cycle(counts)]
 #[tactic(auto, using(crate::proofs::Declared::declared))]
-pub fn locals_of(list: &[Part<'_>]) -> Result<usize, Refusal<TypeFault>>
-    ensures { Gives (λ n. n) result (Ok (rule.locals_of (parts_of (map part_of list.now)))) }
+pub fn locals_of(list: &[Part<'_>]) -> Result<usize, AllocError>
+    ensures { IsCounted (rule.locals_of (parts_of (map part_of list.now))) result }
 {
     let mut count = 0;
     for part in list {
@@ -87,8 +78,8 @@ pub fn locals_of(list: &[Part<'_>]) -> Result<usize, Refusal<TypeFault>>
 /// How many locals a group of a `switch` declares.
 #[cycle(counts)]
 #[tactic(auto, using(crate::proofs::SwitchGroups::by_parts))]
-fn locals_of_group(group: &Group<'_>) -> Result<usize, Refusal<TypeFault>>
-    ensures { Gives (λ n. n) result (Ok (rule.locals_of (group_of group.now).1)) }
+fn locals_of_group(group: &Group<'_>) -> Result<usize, AllocError>
+    ensures { IsCounted (rule.locals_of (group_of group.now).1) result }
 {
     locals_of(group.parts.as_slice())
 }
@@ -96,9 +87,9 @@ fn locals_of_group(group: &Group<'_>) -> Result<usize, Refusal<TypeFault>>
 /// How many locals the groups of a `switch` declare.
 #[cycle(counts)]
 #[tactic(auto, using(crate::proofs::Declared::declared))]
-fn locals_of_groups(list: &[Box<Group<'_>>]) -> Result<usize, Refusal<TypeFault>>
-    ensures { Gives (λ n. n) result (Ok (rule.locals_of_groups (groups_of (map group_of (unboxed
-        list.now))))) }
+fn locals_of_groups(list: &[Box<Group<'_>>]) -> Result<usize, AllocError>
+    ensures { IsCounted (rule.locals_of_groups (groups_of (map group_of (unboxed
+        list.now)))) result }
 {
     let mut count = 0;
     for group in list {

@@ -13,10 +13,9 @@ ghost use Rattle.c_types_statement.specs.Labels as specs;
 use attempt::{Refusal, attempt};
 use c_syntax::expression::Expression;
 use c_syntax::statement::Label;
-use c_types_core::constants::has_width;
+use c_types_core::constants::value_in;
 use c_types_core::expression::Core;
 use c_types_core::fault::TypeFault;
-use c_types_core::values::convert as convert_value;
 use c_types_expression::expression::value;
 use c_types_expression::types::{integer_constant, scalar_value};
 use c_types_operator::operand::{Valued, convert};
@@ -81,10 +80,8 @@ fn label<'a>(
             let found = integer_constant(&v);
             drop(v);
             let constant = attempt!(found);
-            if !has_width(of) {
-                return Err(Refusal::NoMemory);
-            }
-            Ok((Some(convert_value(constant, of)), offset))
+            let key = attempt!(value_in(of, constant), Refusal::NoMemory);
+            Ok((Some(key), offset))
         }
         Label::Default(offset) => Ok((None, *offset)),
     }

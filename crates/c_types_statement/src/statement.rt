@@ -1,6 +1,6 @@
 //! Statements, which contain one another (6.8).
 
-ghost use Rattle.std.specs.Prelude.{◌≡◌, ◌++◌, ◌∷◌, [], if◌then◌else◌, drop, map, IfOk, Ok};
+ghost use Rattle.std.specs.Prelude.{◌≡◌, ◌++◌, ◌∷◌, [], if◌then◌else◌, drop, map, true, IfOk, Ok};
 ghost use Rattle.std.specs.Option.{option_map};
 ghost use Rattle.c_syntax_spec.specs.Unit as tree;
 ghost use Rattle.c_syntax.specs.Expressions.{expression_of};
@@ -17,6 +17,7 @@ ghost use Rattle.c_types_operator.specs.Operands.{core_in};
 ghost use Rattle.c_types_scope.specs.States.{nothing, state_of, Runs};
 ghost use Rattle.c_types_expression.specs.Trees.{unboxed};
 ghost use Rattle.c_types_simple.specs.Contexts.{action_in, context_of};
+ghost use Rattle.c_types_statement.specs.Choices.{IsIfElse, is_plain};
 ghost use Rattle.c_types_statement.specs.Groups as specs;
 ghost use Rattle.c_types_statement.specs.Switches.{so_far};
 
@@ -90,7 +91,7 @@ fn leave<'a>(
     }
 }
 
-/// A statement without statements in it. Others are not read here.
+/// A statement without statements in it.
 #[tactic(auto, unfolding(c_types_spec::specs::Statements::statement), using(c_syntax::proofs::StatementViews::statement_views))]
 fn plain<'a>(
     alloc: Global,
@@ -98,6 +99,7 @@ fn plain<'a>(
     context: Context<'_>,
     state: &mut State<'a>,
 ) -> Result<Box<Action<'a>>, Refusal<TypeFault>>
+    requires { is_plain (statement_of x.now) ≡ true }
     ensures { Runs action_in result state.new (rule.statement (statement_of x.now) (context_of
         context.entry) (state_of state.old)) }
 {
@@ -110,10 +112,10 @@ fn plain<'a>(
         }
         Statement::Continue(offset) => leave(alloc, Jump::Continue, context.in_loop, *offset),
         Statement::Return(given, offset) => { returned_from(alloc, given, context, *offset, state) }
-        Statement::Block(_, _) | Statement::If(_, _, _) => Err(Refusal::NoMemory),
-        Statement::IfElse(_, _, _, _) | Statement::While(_, _, _) => Err(Refusal::NoMemory),
-        Statement::Do(_, _, _) | Statement::For(_, _, _, _, _) => Err(Refusal::NoMemory),
-        Statement::Switch(_, _, _) => Err(Refusal::NoMemory),
+        Statement::Block(_, _) | Statement::If(_, _, _) => unreachable!(),
+        Statement::IfElse(_, _, _, _) | Statement::While(_, _, _) => unreachable!(),
+        Statement::Do(_, _, _) | Statement::For(_, _, _, _, _) => unreachable!(),
+        Statement::Switch(_, _, _) => unreachable!(),
     }
 }
 
@@ -328,7 +330,7 @@ fn if_only<'a>(
     action_or_memory(Action::if_else(alloc, c, action, other))
 }
 
-/// `if (test) body else otherwise`. Others are not read here.
+/// `if (test) body else otherwise`
 #[cycle(statements)]
 #[tactic(auto, unfolding(c_types_spec::specs::Statements::statement), using(c_syntax::proofs::StatementViews::statement_views))]
 fn if_else<'a>(
@@ -337,6 +339,7 @@ fn if_else<'a>(
     context: Context<'_>,
     state: &mut State<'a>,
 ) -> Result<Box<Action<'a>>, Refusal<TypeFault>>
+    requires { IsIfElse x.now }
     ensures { Runs action_in result state.new (rule.statement (statement_of x.now) (context_of
         context.entry) (state_of state.old)) }
 {
@@ -349,15 +352,7 @@ fn if_else<'a>(
             state.close();
             action_or_memory(Action::if_else(alloc, c, action, other))
         }
-        Statement::Block(_, _) | Statement::Empty(_) | Statement::Perform(_) => {
-            Err(Refusal::NoMemory)
-        }
-        Statement::Break(_) | Statement::Continue(_) | Statement::Return(_, _) => {
-            Err(Refusal::NoMemory)
-        }
-        Statement::If(_, _, _) | Statement::While(_, _, _) => Err(Refusal::NoMemory),
-        Statement::Do(_, _, _) | Statement::For(_, _, _, _, _) => Err(Refusal::NoMemory),
-        Statement::Switch(_, _, _) => Err(Refusal::NoMemory),
+        _ => unreachable!(),
     }
 }
 

@@ -1,5 +1,5 @@
 -- Lines inside a part, as the definition's walk takes them.
-use Rattle.std.proofs.Common.{◌≡◌, ◌∙◌, inl, inr, ℕ, true, Vec, Global, List, [], ◌∷◌, ◌++◌, length, map, Result, Ok, Err, sym, ap, subst}
+use Rattle.std.proofs.Common.{◌≡◌, ◌∙◌, inl, inr, ℕ, true, Vec, Global, List, [], ◌∷◌, ◌++◌, length, map, Ok, Err, sym, ap, subst}
 use Rattle.std.proofs.lemmas.List.{length-map}
 use Rattle.std.proofs.lemmas.Option.{get_or_from_slice_get, slice_get_within}
 use Rattle.term_core_spec.specs.Term.{Term, not_term}
@@ -32,6 +32,7 @@ use Rattle.cert_check_spec.specs.Verdict as spec
 use Rattle.cert_check_spec.specs.Verdict.{Inside, Passes, Fails, NotProof, Limit, IsTest, with_test}
 use Rattle.cert_check_terms.specs.Outcomes.{IsOfLine, IsRead}
 use Rattle.cert_check_terms.specs.Variables.{AreApart}
+use Rattle.cert_check_leaf.specs.Goals.{AnswersGoals}
 use Rattle.cert_check_frames.specs.declared.jobs.Branch.{Branch}
 use Rattle.cert_check_frames.specs.declared.jobs.Job.{Job}
 use Rattle.cert_check_frames.specs.declared.jobs.Job.TheVariants.{Prove}
@@ -236,7 +237,7 @@ no_test code f is symbols trees none = λ test is_test.
     none apart test here.spelled here.line
 
 -- why there are no obligations, as the fault of a line
-pub goals_fail : (c : Convention) (o : Opening) (frame : Frame) (trees : List Term) (error : Refusal RuleFault) → IsRuleFault o frame MAX_VISITS rule.Leaf error
+goals_fail : (c : Convention) (o : Opening) (frame : Frame) (trees : List Term) (error : Refusal RuleFault) → IsRuleFault o frame MAX_VISITS rule.Leaf error
     → AreGoalsOf c o frame trees (Err (goal_fault_of error))
 goals_fail c o frame trees (Fault (obligation.Sort index)) is = absurd is
 goals_fail c o frame trees (Fault (obligation.Cyclic side node)) is = (node, cyclic_on o frame rule.Leaf side node is)
@@ -250,11 +251,20 @@ leaf_acyclic c o frame terms are node cyclic = elim cyclic [
   | inr of_source ↦ acyclic (source_way frame o.source).walk are.source are.source_are node of_source.1
 ]
 
-pub goals_made : (c : Convention) (o : Opening) (frame : Frame) (trees : List Term) (goals : Vec ℕ Global) → AreObligations trees c o frame rule.Leaf goals.items
+goals_made : (c : Convention) (o : Opening) (frame : Frame) (trees : List Term) (goals : Vec ℕ Global) → AreObligations trees c o frame rule.Leaf goals.items
     → HasFewVisits o frame MAX_VISITS rule.Leaf → AreGoalsOf c o frame trees (Ok goals)
 goals_made c o frame trees goals are few = record { acyclic = leaf_acyclic c o frame are.terms are.are; small = few; are = are }
 
--- the premises as they are lent
-pub goals_for : (f : spec.Listed) (trees old : List Term) (lent premises : List Branch) (result : Result (Vec ℕ Global) (Refusal PartFault)) → lent ≡ premises
-    → AreGoals f trees (premises_at old lent) result → AreGoals f trees (premises_at old premises) result
-goals_for f trees old lent premises result same are = subst (λ (list : List Branch). AreGoals f trees (premises_at old list) result) same are
+-- the premises as they are lent, and the obligations there
+pub goals_for : (f : spec.Listed) (trees old : List Term) (lent premises : List Branch) (goals : Vec ℕ Global) → lent ≡ premises
+    → AnswersGoals f (frame_with f.frame (premises_at old lent)) trees (Ok goals) → AreGoals f trees (premises_at old premises) (Ok goals)
+goals_for f trees old lent premises goals same has =
+    subst (λ (list : List Branch). AreGoals f trees (premises_at old list) (Ok goals)) same
+    (goals_made f.convention f.opening (frame_with f.frame (premises_at old lent)) trees goals has.are has.few)
+
+-- or why there are none
+pub fault_for : (f : spec.Listed) (trees old : List Term) (lent premises : List Branch) (error : Refusal RuleFault) (fault : Refusal PartFault) → lent ≡ premises → fault ≡ goal_fault_of error
+    → AnswersGoals f (frame_with f.frame (premises_at old lent)) trees (Err error) → AreGoals f trees (premises_at old premises) (Err fault)
+fault_for f trees old lent premises error fault same is broken =
+    subst (λ (list : List Branch). AreGoals f trees (premises_at old list) (Err fault)) same
+    (subst (λ (x : Refusal PartFault). AreGoals f trees (premises_at old lent) (Err x)) (sym is) (goals_fail f.convention f.opening (frame_with f.frame (premises_at old lent)) trees error broken))

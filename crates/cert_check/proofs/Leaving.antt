@@ -1,46 +1,19 @@
--- The frame of a Leaf, and the opening of a part, as they are listed.
-use Rattle.std.proofs.Common.{◌≡◌, ◌∙◌, ◌<◌, ℕ, Vec, Box, Global, Option, Result, Ok, Err, List, [], ◌∷◌, ◌++◌, length, map, sym, ap, subst}
+-- What is expected of a part, as its bank grows.
+use Rattle.std.proofs.Common.{◌≡◌, ◌<◌, ℕ, Vec, Global, Option, Result, Ok, Err, List, [], ◌∷◌, ◌++◌, length, sym, subst}
 use Rattle.std.specs.Prelude.{All, OnOk}
 use Rattle.std.proofs.lemmas.List.Elements.{All-append}
-use Rattle.std.specs.HashMap.{get}
 use Rattle.term_core_spec.specs.declared.Variable.{Variable}
-use Rattle.term_core_spec.specs.Same.{same_variable}
 use Rattle.term_core_spec.specs.Term.{Term}
-use Rattle.term_core.specs.declared.term.Term.{Term as CodeTerm}
 use Rattle.term_bank.specs.Nodes.{Extends}
-use Rattle.graph_core.specs.Graphs.{boxed_term}
-use Rattle.proof_tree_spec.specs.Frames as frames
-use Rattle.proof_tree.specs.declared.frame.Frame.{Frame}
-use Rattle.proof_tree.specs.Frames.{frame_of}
-use Rattle.sim_rules_terms.specs.declared.points.Opening.{Opening}
-use Rattle.sim_rules_terms.proofs.Later.{map_later, map_for}
-use Rattle.sim_rules_terms.specs.Openings.{IsOpening, IsOpeningIn}
-use Rattle.cert_check_spec.specs.Verdict as spec
+use Rattle.sim_rules_terms.proofs.Later.{map_later}
 use Rattle.cert_check_frames.specs.declared.jobs.Branch.{Branch}
 use Rattle.cert_check_frames.specs.declared.jobs.Job.{Job}
 use Rattle.cert_check_frames.specs.declared.jobs.Job.TheVariants.{Prove}
 use Rattle.cert_check_frames.specs.declared.listed.Listed.{Listed}
-use Rattle.cert_check_frames.specs.Listed.{IsListed, frame_at, terms_given}
-use Rattle.cert_check_frames.specs.Jobs.{tests_at, premises_at, premises_with, frame_with, logs_last, IsInside, AreInside, HasBranches}
-use Rattle.cert_check.specs.Steps.{AreOpened, IsKeptBy}
-use Rattle.cert_check.proofs.Pushed.{premises_given, inside_top, inside_later, logs_inside, below_later, branches_inside}
-
-pub opened_setup : (code : Listed) (f : spec.Listed) → IsListed code f → (trees : List Term) (o : Opening) → AreOpened code trees o → IsOpening trees f.opening o
-opened_setup code f is trees o are = record {
-  of_binary = map_for trees (get same_variable o.binary.now) (terms_given code.binary_terms.now) f.opening.binary are.0 is.binary_is;
-  of_source = map_for trees (get same_variable o.source.now) (terms_given code.source_terms.now) f.opening.source are.1 is.source_is;
-}
-
-pub opened_in : (code : Listed) (trees : List Term) (o : Opening) → AreOpened code trees o → IsOpeningIn (length trees) o
-opened_in code trees o are = record { binary_below = are.0.below; source_below = are.1.below }
-
--- the frame that was made is the listed one with the premises
-pub frame_there : (code : Listed) (f : spec.Listed) → IsListed code f → (trees : List Term) (premises : List Branch) (tests : List (Box CodeTerm Global)) → map boxed_term tests ≡ tests_at trees premises
-    → (frame : Frame) → frame_of frame ≡ frame_with (frame_at code) (premises_with premises (map boxed_term tests)) → frame_of frame ≡ frame_with f.frame (premises_at trees premises)
-frame_there code f is trees premises tests are frame made =
-    made
-    ∙ ap (λ (terms : List Term). frame_with (frame_at code) terms) (ap (premises_with premises) are ∙ premises_given trees f.frame premises)
-    ∙ ap (λ (g : frames.Frame). frame_with g (premises_at trees premises)) (sym is.frame_is)
+use Rattle.cert_check_frames.specs.Listed.{terms_given}
+use Rattle.cert_check_frames.specs.Jobs.{logs_last, IsInside, AreInside, HasBranches}
+use Rattle.cert_check.specs.Steps.{IsKeptBy}
+use Rattle.cert_check.proofs.Pushed.{inside_top, inside_later, logs_inside, below_later, branches_inside}
 
 -- ---- ids of a bank that grows
 

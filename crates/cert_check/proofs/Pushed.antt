@@ -11,7 +11,7 @@ use Rattle.cert_check_spec.specs.Verdict.{with_test}
 use Rattle.cert_check_frames.specs.declared.jobs.Branch.{Branch}
 use Rattle.cert_check_frames.specs.declared.jobs.Job.{Job}
 use Rattle.cert_check_frames.specs.declared.jobs.Job.TheVariants.{Prove, Close}
-use Rattle.cert_check_frames.specs.Jobs.{premise_of, premise_at, premises_at, tests_at, premises_with, frame_with, logs_last, AreBelow, IsInside, AreInside, HasBranches}
+use Rattle.cert_check_frames.specs.Jobs.{premise_of, premise_at, premises_at, frame_with, logs_last, AreBelow, IsInside, AreInside, HasBranches}
 use Rattle.cert_check.specs.Jobs.{job_of, stacked, jobs_of}
 
 -- ---- the top
@@ -57,12 +57,6 @@ module _ (trees : List Term) (f : Frame) where
   -- no further premise
   pub with_none : frame_with f [] ≡ f
   with_none = ap (λ (list : List Term). record f { start = record f.start { premises = list } }) (append-nil f.start.premises)
-
-  -- the tests of premises, each as it holds
-  pub premises_given : (premises : List Branch) → premises_with premises (tests_at trees premises) ≡ premises_at trees premises
-  unfolding premises_with
-  premises_given [] = refl
-  premises_given (b ∷ premises) = ap (λ (terms : List Term). premise_at trees b ∷ terms) (premises_given premises)
 
 -- ---- a bank that grows
 

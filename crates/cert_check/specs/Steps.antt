@@ -1,5 +1,5 @@
 -- What a line does inside the part of a function.
-use Rattle.std.specs.Prelude.{◌≡◌, ℕ, ◌<◌, Vec, List, [], length, Option, Result, Ok, Err}
+use Rattle.std.specs.Prelude.{ℕ, ◌<◌, Vec, List, length, Option, Result, Ok, Err}
 use Rattle.std.specs.Global.{Global}
 use Rattle.std.specs.HashMap.{get}
 use Rattle.term_core_spec.specs.declared.Variable.{Variable}
@@ -38,9 +38,6 @@ use Rattle.term_bank.specs.Nodes.{tree_at}
 -- the maps have the terms of the function's entry
 abbrev pub AreOpenedBy : Listed → (trees : List Term) → (binary source : Variable → Option ℕ) → Type 0
 AreOpenedBy f trees binary source = IsMapOf trees binary (terms_given f.binary_terms.now) × IsMapOf trees source (terms_given f.source_terms.now)
-
-abbrev pub AreOpened : Listed → (trees : List Term) → Opening → Type 0
-AreOpened f trees o = AreOpenedBy f trees (get same_variable o.binary.now) (get same_variable o.source.now)
 
 -- and the jobs' ids are of its bank
 pub record IsKeptBy (f : Listed) (trees : List Term) (binary source : Variable → Option ℕ) (jobs : List Job) : Type 0 where
@@ -86,9 +83,6 @@ AreGoalsOf c o frame trees (Err NoMemory) = Unit {0}
 -- where the frame at the entry has these further premises
 abbrev pub AreGoals : spec.Listed → List Term → (premises : List Term) → Result (Vec ℕ Global) (Refusal PartFault) → Type 0
 AreGoals f trees premises result = AreGoalsOf f.convention f.opening (frame_with f.frame premises) trees result
-
-abbrev pub HasGoals : Listed → List Term → (premises : List Term) → Result (Vec ℕ Global) (Refusal PartFault) → Type 0
-HasGoals code trees premises result = (f : spec.Listed) → IsListed code f → AreGoals f trees premises result
 
 abbrev pub goal_fault_of : Refusal RuleFault → Refusal PartFault
 goal_fault_of (Fault (obligation.Sort index)) = Fault (Broken fault.Sort)

@@ -1,5 +1,4 @@
 mod Sided
-mod Opened
 mod Searched
 mod Adding
 mod Listing

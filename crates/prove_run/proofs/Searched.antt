@@ -32,7 +32,7 @@ use Rattle.prove_run.specs.declared.trail.Found.{Found}
 use Rattle.prove_run.specs.declared.trail.Found.TheVariants.{Proved, Unproved}
 use Rattle.prove_run.specs.declared.trail.Trail.{Trail}
 use Rattle.prove_run.specs.Found.{found_of, logs_of, trail_of}
-use Rattle.prove_run.specs.Goals.{HasGoals}
+use Rattle.cert_check_leaf.specs.Goals.{HasGoals}
 use Rattle.prove_run.specs.Logs.{AreTruths, IsLeanLog, IsGoalTrail, HasLog, HaveAll, HasTrail, IsSearched}
 
 -- ---- one log more
@@ -156,7 +156,7 @@ leaf_acyclic : (c : Convention) (o : Opening) (frame : Frame) (ts : List Term) �
 leaf_acyclic c o frame ts are node (inl of_binary) = acyclic (binary_way frame o.binary).walk are.binary are.binary_are node of_binary
 leaf_acyclic c o frame ts are node (inr of_source) = acyclic (source_way frame o.source).walk are.source are.source_are node of_source.1
 
-module _ (f : spec.Listed) (trees : List Term) (ids : List ℕ) (has : HasGoals f.convention f.opening f.frame trees ids) where
+module _ (f : spec.Listed) (trees : List Term) (ids : List ℕ) (has : HasGoals f f.frame trees ids) where
   terms_are : map (tree_at trees) ids ≡ has.are.terms
   terms_are = trees_held trees ids has.are.terms has.are.held
 

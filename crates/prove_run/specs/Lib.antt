@@ -1,4 +1,3 @@
-pub mod Goals
 pub mod Found
 pub mod Logs
 pub mod Written

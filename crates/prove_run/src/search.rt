@@ -28,11 +28,11 @@ fn find_in<N: Notes>(
 {
     match leaf_obligations(alloc, function, bank) {
         Ok(goals) => search(alloc, bank, goals.as_slice(), function.runs, notes),
-        Err(fault) => why(fault),
+        Err(refusal) => why(refusal),
     }
 }
 
-// What the search finds of a function.
+// What the search finds of a function, in a bank of its own.
 fn find<N: Notes>(alloc: Global, function: &Listed<'_>, notes: &mut N) -> Result<Found, AllocError>
     ensures { (f : spec.Listed) → IsListed function.now f → HasTruths f
         → IfOk result (λ found. IsFound f (found_of found)) }

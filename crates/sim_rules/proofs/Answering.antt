@@ -16,15 +16,12 @@ use Rattle.attempt.specs.declared.refusal.Refusal.{Refusal}
 use Rattle.attempt.specs.declared.refusal.Refusal.TheVariants.{Fault, NoMemory}
 use Rattle.sim_rules.specs.declared.fault.RuleFault.{RuleFault}
 use Rattle.sim_rules.specs.declared.fault.RuleFault.TheVariants.{Sort, Cyclic, Large}
-use Rattle.sim_rules.specs.declared.plan.Walking.{Walking}
-use Rattle.sim_rules.specs.declared.plan.Walking.TheVariants.{Leaf, RestrictBinary, RestrictSource, Wait}
 use Rattle.sim_rules.specs.declared.setup.Setup.{Setup}
 use Rattle.sim_rules.specs.Replies.{IsAnswer}
 use Rattle.sim_rules_terms.specs.Held.{AreHeld}
 use Rattle.sim_rules_terms.specs.Lines.{AreLines}
 use Rattle.sim_rules.specs.Lines.{IsLineFault}
-use Rattle.sim_rules.specs.Outcome.{AreObligations, HasFewVisits, HasLines, IsRuleAnswer, IsRuleFault}
-use Rattle.sim_rules.specs.Rules.{walking_of}
+use Rattle.sim_rules.specs.Outcome.{AreObligations, HasFewVisits, HasLines, IsRuleFault}
 use Rattle.sim_rules.specs.Setups.{IsSetup}
 
 abbrev Reply : Type 0
@@ -79,16 +76,15 @@ module _ (trees : List Term) (s : Setup) (r : Reply) (none : IfOk r (λ ids. ids
       bad o (Fault (Large side count)) h = absurd h
       bad o NoMemory h = tt
 
--- ---- both sides' walks
+-- ---- rules whose obligations are of both sides' walks
 
-no_lines : (f : Frame) (rule : Walking) → HasLines f (walking_of rule)
-no_lines f Leaf = λ index h. h
-no_lines f (RestrictBinary bound) = λ index h. h
-no_lines f (RestrictSource bound) = λ index h. h
-no_lines f (Wait hold) = λ index h. h
+pub no_memory : (before now : List Term) (s : Setup) (rule : Rule) → IsAnswer before now s rule (Err NoMemory)
+no_memory before now s rule = record { terms = λ c o is. tt; within = tt; lines = tt; few = λ o. tt; fault = λ o. tt }
 
-module _ (before now : List Term) (s : Setup) (rule : Walking) where
-  pub of_walks : (r : Reply) → ((c : Convention) (o : Opening) → IsSetup before c o s → IfOk r (λ ids. AreObligations now c o (frame_of s.frame.now) (walking_of rule) ids.items))
-      → IfOk r (λ ids. All (λ (id : ℕ). id < length now) ids.items) → ((o : Opening) → IsRuleAnswer o (frame_of s.frame.now) s.maximum (walking_of rule) r) → IsAnswer before now s (walking_of rule) r
-  of_walks (Ok ids) terms within walks = record { terms = terms; within = within; lines = no_lines (frame_of s.frame.now) rule; few = walks; fault = λ o. tt }
-  of_walks (Err fault) terms within walks = record { terms = terms; within = within; lines = tt; few = λ o. tt; fault = walks }
+pub by_fault : (before now : List Term) (s : Setup) (rule : Rule) (x : Refusal RuleFault) → ((o : Opening) → IsRuleFault o (frame_of s.frame.now) s.maximum rule x) → IsAnswer before now s rule (Err x)
+by_fault before now s rule x is = record { terms = λ c o setup. tt; within = tt; lines = tt; few = λ o. tt; fault = is }
+
+pub by_terms : (before now : List Term) (s : Setup) (rule : Rule) (ids : Vec ℕ Global) → HasLines (frame_of s.frame.now) rule
+    → ((c : Convention) (o : Opening) → IsSetup before c o s → AreObligations now c o (frame_of s.frame.now) rule ids.items) → All (λ (id : ℕ). id < length now) ids.items
+    → ((o : Opening) → HasFewVisits o (frame_of s.frame.now) s.maximum rule) → IsAnswer before now s rule (Ok ids)
+by_terms before now s rule ids lines are within few = record { terms = are; within = within; lines = lines; few = few; fault = λ o. tt }

@@ -12,11 +12,10 @@ use Rattle.visit_walk.specs.declared.found.WalkFault.{WalkFault}
 use Rattle.sim_rules.specs.declared.fault.RuleFault.{RuleFault}
 use Rattle.sim_rules.specs.declared.fault.RuleFault.TheVariants.{Sort, Cyclic, Large}
 use Rattle.visit_walk.specs.declared.found.WalkFault.TheVariants as walk
-use Rattle.sim_rules.specs.declared.plan.Plan.{Plan}
+use Rattle.sim_rules.specs.declared.fault.Needs.{Needs}
 use Rattle.sim_rules_spec.specs.declared.Side.{Side}
 use Rattle.sim_rules_spec.specs.declared.Side.TheVariants.{Binary, Source}
-use Rattle.sim_rules.specs.Faults.{AreFew, IsOutcome, IsPlanFault, cyclic_if, fault_in, first_fault, first_of, large_if}
-use Rattle.sim_rules.specs.Walks.{AreKnown, visits_in}
+use Rattle.sim_rules.specs.Faults.{AreEnough, AreFew, AreKnown, IsFaultOf, IsOutcome, cyclic_if, fault_in, first_fault, first_of, large_if, visits_in}
 use Rattle.sim_rules.proofs.Counting.{never_too_many}
 
 pub not_true : false ≡ true → ⊥
@@ -94,22 +93,22 @@ some_of (Some g) y f e = inl e
 
 -- ---- both walks
 
-module _ (p : Plan) (a d : Walk) (maximum : ℕ) where
-  by_binary : (f : Refusal RuleFault) → IsCyclicBy Binary p.needs_binary a f → IsPlanFault p a d maximum f
+module _ (p : Needs) (a d : Walk) (maximum : ℕ) where
+  by_binary : (f : Refusal RuleFault) → IsCyclicBy Binary p.binary a f → IsFaultOf p a d maximum f
   by_binary (Fault (Sort i)) h = h
   by_binary (Fault (Cyclic Binary n)) h = (h.1, h.2)
   by_binary (Fault (Cyclic Source n)) h = absurd (not_binary h.0)
   by_binary (Fault (Large side n)) h = absurd h
   by_binary NoMemory h = tt
 
-  by_source : (f : Refusal RuleFault) → (p.needs_binary ≡ true → IsAcyclic a) → IsCyclicBy Source p.needs_source d f → IsPlanFault p a d maximum f
+  by_source : (f : Refusal RuleFault) → (p.binary ≡ true → IsAcyclic a) → IsCyclicBy Source p.source d f → IsFaultOf p a d maximum f
   by_source (Fault (Sort i)) none h = h
   by_source (Fault (Cyclic Binary n)) none h = absurd (not_source h.0)
   by_source (Fault (Cyclic Source n)) none h = (none, h.1, h.2)
   by_source (Fault (Large side n)) none h = absurd h
   by_source NoMemory none h = tt
 
-  by_number : (f : Refusal RuleFault) → (p.needs_binary ≡ true → IsAcyclic a) → (p.needs_source ≡ true → IsAcyclic d) → IsLargeBy Binary a maximum f ⊎ IsLargeBy Source d maximum f → IsPlanFault p a d maximum f
+  by_number : (f : Refusal RuleFault) → (p.binary ≡ true → IsAcyclic a) → (p.source ≡ true → IsAcyclic d) → IsLargeBy Binary a maximum f ⊎ IsLargeBy Source d maximum f → IsFaultOf p a d maximum f
   by_number (Fault (Sort i)) none also h = elim h [ inl x ↦ x | inr x ↦ x ]
   by_number (Fault (Cyclic side n)) none also h = elim h [ inl x ↦ absurd x | inr x ↦ absurd x ]
   by_number (Fault (Large Binary n)) none also h = elim h [ inl x ↦ (none, also, x.1) | inr x ↦ absurd (not_source x.0) ]
@@ -117,42 +116,45 @@ module _ (p : Plan) (a d : Walk) (maximum : ℕ) where
   by_number NoMemory none also h = tt
 
   module _ (x y : Result Listing (Refusal WalkFault)) (of_a : IsOutcome a maximum x) (of_d : IsOutcome d maximum y) where
-    by_cycle : (f : Refusal RuleFault) → first_of (cyclic_if Binary p.needs_binary (fault_in x)) (cyclic_if Source p.needs_source (fault_in y)) ≡ Some f → IsPlanFault p a d maximum f
-    by_cycle f e = elim (some_of (cyclic_if Binary p.needs_binary (fault_in x)) (cyclic_if Source p.needs_source (fault_in y)) f e) [
-      | inl at ↦ by_binary f (cyclic_is Binary a maximum p.needs_binary x f of_a at)
-      | inr at ↦ by_source f (not_cyclic Binary a maximum p.needs_binary x of_a at.0) (cyclic_is Source d maximum p.needs_source y f of_d at.1)
+    by_cycle : (f : Refusal RuleFault) → first_of (cyclic_if Binary p.binary (fault_in x)) (cyclic_if Source p.source (fault_in y)) ≡ Some f → IsFaultOf p a d maximum f
+    by_cycle f e = elim (some_of (cyclic_if Binary p.binary (fault_in x)) (cyclic_if Source p.source (fault_in y)) f e) [
+      | inl at ↦ by_binary f (cyclic_is Binary a maximum p.binary x f of_a at)
+      | inr at ↦ by_source f (not_cyclic Binary a maximum p.binary x of_a at.0) (cyclic_is Source d maximum p.source y f of_d at.1)
     ]
 
-    by_count : (f : Refusal RuleFault) → first_of (cyclic_if Binary p.needs_binary (fault_in x)) (cyclic_if Source p.needs_source (fault_in y)) ≡ None
-        → first_of (large_if Binary (fault_in x)) (large_if Source (fault_in y)) ≡ Some f → IsPlanFault p a d maximum f
+    by_count : (f : Refusal RuleFault) → first_of (cyclic_if Binary p.binary (fault_in x)) (cyclic_if Source p.source (fault_in y)) ≡ None
+        → first_of (large_if Binary (fault_in x)) (large_if Source (fault_in y)) ≡ Some f → IsFaultOf p a d maximum f
     by_count f none e =
-        let also = none_of (cyclic_if Binary p.needs_binary (fault_in x)) (cyclic_if Source p.needs_source (fault_in y)) none in
-        by_number f (not_cyclic Binary a maximum p.needs_binary x of_a also.0) (not_cyclic Source d maximum p.needs_source y of_d also.1)
+        let also = none_of (cyclic_if Binary p.binary (fault_in x)) (cyclic_if Source p.source (fault_in y)) none in
+        by_number f (not_cyclic Binary a maximum p.binary x of_a also.0) (not_cyclic Source d maximum p.source y of_d also.1)
         (elim (some_of (large_if Binary (fault_in x)) (large_if Source (fault_in y)) f e) [
           | inl at ↦ inl (large_is Binary a maximum x f of_a at)
           | inr at ↦ inr (large_is Source d maximum y f of_d at.1)
         ])
 
-    pub plan_fault : (f : Refusal RuleFault) → first_fault p (fault_in x) (fault_in y) ≡ Some f → IsPlanFault p a d maximum f
-    plan_fault f e = elim (some_of (first_of (cyclic_if Binary p.needs_binary (fault_in x)) (cyclic_if Source p.needs_source (fault_in y))) (first_of (large_if Binary (fault_in x)) (large_if Source (fault_in y))) f e) [
+    pub fault_of : (f : Refusal RuleFault) → first_fault p (fault_in x) (fault_in y) ≡ Some f → IsFaultOf p a d maximum f
+    fault_of f e = elim (some_of (first_of (cyclic_if Binary p.binary (fault_in x)) (cyclic_if Source p.source (fault_in y))) (first_of (large_if Binary (fault_in x)) (large_if Source (fault_in y))) f e) [
       | inl at ↦ by_cycle f at
       | inr at ↦ by_count f at.0 at.1
     ]
 
-    pub both_known : first_fault p (fault_in x) (fault_in y) ≡ None → AreKnown p.needs_binary a (visits_in x) × AreKnown p.needs_source d (visits_in y)
+    both_known : first_fault p (fault_in x) (fault_in y) ≡ None → AreKnown p.binary a (visits_in x) × AreKnown p.source d (visits_in y)
     both_known e =
-        let also = none_of (first_of (cyclic_if Binary p.needs_binary (fault_in x)) (cyclic_if Source p.needs_source (fault_in y))) (first_of (large_if Binary (fault_in x)) (large_if Source (fault_in y))) e in
-        let cycles = none_of (cyclic_if Binary p.needs_binary (fault_in x)) (cyclic_if Source p.needs_source (fault_in y)) also.0 in
+        let also = none_of (first_of (cyclic_if Binary p.binary (fault_in x)) (cyclic_if Source p.source (fault_in y))) (first_of (large_if Binary (fault_in x)) (large_if Source (fault_in y))) e in
+        let cycles = none_of (cyclic_if Binary p.binary (fault_in x)) (cyclic_if Source p.source (fault_in y)) also.0 in
         let numbers = none_of (large_if Binary (fault_in x)) (large_if Source (fault_in y)) also.1 in
-        (known Binary a maximum p.needs_binary x of_a cycles.0 numbers.0, known Source d maximum p.needs_source y of_d cycles.1 numbers.1)
+        (known Binary a maximum p.binary x of_a cycles.0 numbers.0, known Source d maximum p.source y of_d cycles.1 numbers.1)
 
-    pub both_few : first_fault p (fault_in x) (fault_in y) ≡ None → AreFew a d maximum
+    both_few : first_fault p (fault_in x) (fault_in y) ≡ None → AreFew a d maximum
     both_few e = λ count t.
-        let also = none_of (first_of (cyclic_if Binary p.needs_binary (fault_in x)) (cyclic_if Source p.needs_source (fault_in y))) (first_of (large_if Binary (fault_in x)) (large_if Source (fault_in y))) e in
-        let cycles = none_of (cyclic_if Binary p.needs_binary (fault_in x)) (cyclic_if Source p.needs_source (fault_in y)) also.0 in
+        let also = none_of (first_of (cyclic_if Binary p.binary (fault_in x)) (cyclic_if Source p.source (fault_in y))) (first_of (large_if Binary (fault_in x)) (large_if Source (fault_in y))) e in
+        let cycles = none_of (cyclic_if Binary p.binary (fault_in x)) (cyclic_if Source p.source (fault_in y)) also.0 in
         let numbers = none_of (large_if Binary (fault_in x)) (large_if Source (fault_in y)) also.1 in
-        elim t [ inl h ↦ few Binary a maximum p.needs_binary x of_a cycles.0 numbers.0 count h | inr h ↦ few Source d maximum p.needs_source y of_d cycles.1 numbers.1 count h ]
+        elim t [ inl h ↦ few Binary a maximum p.binary x of_a cycles.0 numbers.0 count h | inr h ↦ few Source d maximum p.source y of_d cycles.1 numbers.1 count h ]
+
+    pub enough : first_fault p (fault_in x) (fault_in y) ≡ None → AreEnough p a d x y maximum
+    enough e = record { few = both_few e; binary = (both_known e).0; source = (both_known e).1 }
 
 -- as the code has it
-pub fault_found : (p q : Plan) (x y u v : Option (Refusal WalkFault)) (r s : Option (Refusal RuleFault)) → r ≡ first_fault p x y → p ≡ q → x ≡ u → y ≡ v → r ≡ s → first_fault q u v ≡ s
-fault_found p q x y u v r s is e f g h = sym (λ i. first_fault (e i) (f i) (g i)) ∙ sym is ∙ h
+pub fault_found : (p : Needs) (x y u v : Option (Refusal WalkFault)) (r s : Option (Refusal RuleFault)) → r ≡ first_fault p x y → x ≡ u → y ≡ v → r ≡ s → first_fault p u v ≡ s
+fault_found p x y u v r s is f g h = sym (λ i. first_fault p (f i) (g i)) ∙ sym is ∙ h

@@ -5,11 +5,13 @@ pub mod AtStops
 pub mod Resting
 pub mod Lists
 pub mod Made
+pub mod Seen
 pub mod Faulty
 pub mod Counting
 pub mod Knowing
 pub mod Finishing
 pub mod Answering
+pub mod Answered
 pub mod Growing
 pub mod Gaining
 pub mod Searching

@@ -1,6 +1,5 @@
 pub mod Sides
 pub mod Marks
-pub mod Plans
 pub mod Made
 pub mod Faults
 pub mod Walks

@@ -5,7 +5,7 @@ use Rattle.term_core_spec.specs.Same.{same_variable}
 use Rattle.graph_core.specs.Graphs.{graph_of}
 use Rattle.visit_walk_spec.specs.Shape.{Shape, shape_of}
 use Rattle.proof_tree_spec.specs.Frames.{Side as SpecSide}
-use Rattle.proof_tree.specs.Frames.{frame_of, mark_of}
+use Rattle.proof_tree.specs.Frames.{frame_of}
 use Rattle.sim_rules_spec.specs.Sides as sides
 use Rattle.sim_rules_spec.specs.Sides.{graph_at, visit_mark, IsCutTo}
 use Rattle.sim_rules_spec.specs.Rules.{Opening, hold_mark, restricted}
@@ -13,8 +13,8 @@ use Rattle.sim_rules_terms.specs.declared.way.Way.{Way}
 use Rattle.sim_rules_terms.specs.Ways.{walk_on}
 use Rattle.sim_rules.specs.declared.setup.Setup.{Setup}
 use Rattle.sim_rules_spec.specs.declared.Side.{Side}
-use Rattle.sim_rules.specs.declared.plan.Change.{Change}
-use Rattle.sim_rules.specs.declared.plan.Change.TheVariants.{Plain, Holding, Restricting}
+use Rattle.sim_rules.specs.declared.change.Change.{Change}
+use Rattle.sim_rules.specs.declared.change.Change.TheVariants.{Plain, Holding, Restricting}
 use Rattle.sim_rules.specs.Sides.{ids_at, side_at, way_at}
 
 -- a shape for a side's walk, as a rule changes it
@@ -29,7 +29,7 @@ changed w Plain shape = w
 changed w (Holding node) shape = record w {
   walk = record { shape = w.walk.shape; start = w.walk.start; stops = visit_mark (hold_mark node) ∷ w.walk.stops; bounds = w.walk.bounds };
 }
-changed w (Restricting bound) shape = restricted w shape (mark_of bound)
+changed w (Restricting bound) shape = restricted w shape bound
 
 -- the way is over the side's graph, its walk is the side's, as the rule changes it, and the ids of the terms of the side's
 -- variables are the opening's

@@ -14,7 +14,7 @@ use Rattle.sim_rules_terms.specs.declared.points.Opening.{Opening as CodeOpening
 use Rattle.sim_rules.specs.declared.setup.Setup.{Setup}
 use Rattle.sim_rules_spec.specs.declared.Side.{Side}
 use Rattle.sim_rules_spec.specs.declared.Side.TheVariants.{Binary, Source}
-use Rattle.sim_rules.specs.declared.side.OneSide.{OneSide}
+use Rattle.sim_rules.specs.declared.sides.OneSide.{OneSide}
 
 abbrev pub side_at : Frame → Side → spec.Side
 side_at f Binary = f.binary

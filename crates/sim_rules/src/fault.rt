@@ -4,7 +4,6 @@ ghost use Rattle.std.specs.Prelude.{◌≡◌};
 ghost use Rattle.sim_rules.specs.Faults as spec;
 ghost use Rattle.sim_rules.specs.Faults.{fault_in};
 
-use crate::plan::Plan;
 use attempt::Refusal;
 use sim_rules_spec::Side;
 use visit_walk::{Visits, WalkFault};
@@ -21,6 +20,15 @@ pub enum RuleFault {
     /// The walk of this side has more visits than the maximum; this is a number above it, and there
     /// are at least so many.
     Large(Side, usize),
+}
+
+/// Which walks a rule needs acyclic.
+#[derive(Clone, Copy)]
+pub(crate) struct Needs {
+    /// Whether the binary's has to be.
+    pub binary: bool,
+    /// Whether the source's has to be.
+    pub source: bool,
 }
 
 /// Why a walk has no list of visits, if it has none.
@@ -79,18 +87,18 @@ fn first_of(
     }
 }
 
-/// Why a rule has no obligations, by what its plan needs and by both walks' faults: a cycle of the
+/// Why a rule has no obligations, by what it needs and by both walks' faults: a cycle of the
 /// binary's comes first, then one of the source's, then a number.
 pub(crate) fn first_fault(
-    plan: Plan,
+    needs: Needs,
     binary: Option<Refusal<WalkFault>>,
     source: Option<Refusal<WalkFault>>,
 ) -> Option<Refusal<RuleFault>>
-    ensures { result ≡ spec.first_fault plan binary source }
+    ensures { result ≡ spec.first_fault needs binary source }
 {
     let cyclic = first_of(
-        cyclic_if(Side::Binary, plan.needs_binary, binary),
-        cyclic_if(Side::Source, plan.needs_source, source),
+        cyclic_if(Side::Binary, needs.binary, binary),
+        cyclic_if(Side::Source, needs.source, source),
     );
     first_of(
         cyclic,

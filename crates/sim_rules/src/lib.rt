@@ -7,23 +7,21 @@
 //! in the graph; what they are is said by `IsCutTo` of `sim_rules_spec` (`specs/Sides.antt`).
 #![tactic(auto)]
 
+mod change;
 mod cut;
 mod denied;
 mod fault;
-mod holding;
+mod leaf;
 mod marks;
-mod plan;
 mod point;
+mod restrict;
 mod rule;
 mod search;
 mod setup;
-mod side;
+mod sides;
 mod stops;
 mod table;
-mod terms;
-mod walked;
-mod ways;
-mod whole;
+mod wait;
 
 pub use cut::cut_to;
 pub use fault::RuleFault;

@@ -2,27 +2,18 @@
 
 ghost use Rattle.std.specs.Prelude.{◌≡◌, ◌++◌, [], map, IfOk, OnOk};
 ghost use Rattle.proof_tree.specs.Frames.{stop_of};
-ghost use Rattle.sim_rules_spec.specs.Sides.{visit_mark};
-ghost use Rattle.sim_rules.specs.Marks.{bound_of, bounds_with, stop_mark, stops_with};
+ghost use Rattle.sim_rules.specs.Marks.{bounds_with, stop_mark, stops_with};
 
-use crate::plan::Change;
+use crate::change::Change;
 use attempt::attempt;
 use graph_core_spec::Mark;
 use proof_tree::{Goal, Stop};
 use sim_rules_spec::Side;
 use std::alloc::{AllocError, Global};
 
-/// A mark as a walk has it.
-pub(crate) fn arrival(mark: Mark) -> Mark
-    ensures { result ≡ bound_of mark }
-{
-    let Mark { node, count } = mark;
-    Mark { node, count }
-}
-
 // A stop as a walk has it.
 fn stop_arrival(stop: &Stop) -> Mark
-    ensures { result ≡ visit_mark (stop_of stop.now) }
+    ensures { result ≡ stop_of stop.now }
 {
     Mark {
         node: stop.at.from,
@@ -81,10 +72,10 @@ pub(crate) fn stops_of(
 
 // Adds some bounds.
 fn add_bounds(marks: &mut Vec<Mark>, bounds: &[Mark]) -> Result<(), AllocError>
-    ensures { OnOk result (marks.new.items ≡ marks.old.items ++ map bound_of bounds.now) }
+    ensures { OnOk result (marks.new.items ≡ marks.old.items ++ bounds.now) }
 {
     for i in 0..bounds.len() {
-        attempt!(marks.push(arrival(bounds[i])), AllocError);
+        attempt!(marks.push(bounds[i]), AllocError);
     }
     Ok(())
 }
@@ -95,7 +86,7 @@ fn add_restriction(marks: &mut Vec<Mark>, change: Change) -> Result<(), AllocErr
 {
     match change {
         Change::Restricting(bound) => {
-            attempt!(marks.push(arrival(bound)), AllocError);
+            attempt!(marks.push(bound), AllocError);
             Ok(())
         }
         Change::Plain | Change::Holding(_) => Ok(()),
@@ -109,7 +100,7 @@ pub(crate) fn bounds_of(
     change: Change,
 ) -> Result<Vec<Mark>, AllocError>
     ensures { IfOk result (λ marks. marks.items
-        ≡ bounds_with change (map bound_of bounds.now)) }
+        ≡ bounds_with change (bounds.now)) }
 {
     let mut marks = Vec::new(alloc);
     attempt!(add_bounds(&mut marks, bounds));

@@ -1,25 +1,25 @@
 //! The rules of a proof, and their obligations.
 
-ghost use Rattle.std.specs.Prelude.{◌≡◌, ◌<◌, ◌∷◌, [], All, IfErr, IfOk, OnOk, length};
+ghost use Rattle.std.specs.Prelude.{◌≡◌, ◌∷◌, [], IfErr, IfOk, OnOk, length};
+ghost use Rattle.graph_core.specs.Graphs.{graph_of};
+ghost use Rattle.graph_core_spec.specs.Graph as nodes;
 ghost use Rattle.term_core.specs.Trees.{term_of};
 ghost use Rattle.term_bank.specs.Nodes.{Extends};
-ghost use Rattle.proof_tree.specs.Frames.{frame_of, terms_of};
+ghost use Rattle.proof_tree.specs.Frames.{terms_of};
 ghost use Rattle.proof_tree.specs.Scope.{setting_of};
-ghost use Rattle.sim_rules_spec.specs.Points as points;
-ghost use Rattle.sim_rules_spec.specs.Rules as rules;
 ghost use Rattle.sim_rules_terms.specs.Openings.{IsOpeningIn};
 ghost use Rattle.sim_rules.specs.Replies.{IsAnswer};
 ghost use Rattle.sim_rules_terms.specs.Lines.{AreLines};
 ghost use Rattle.sim_rules.specs.Lines.{IsLineFault};
-ghost use Rattle.sim_rules.specs.Outcome.{AreObligations, HasFewVisits, HasLines, IsRuleFault};
-ghost use Rattle.sim_rules.specs.Rules.{rule_by, rule_of};
-ghost use Rattle.sim_rules.specs.Setups.{IsSetup};
+ghost use Rattle.sim_rules.specs.Rules.{rule_of};
 
 use crate::fault::RuleFault;
-use crate::plan::Walking;
+use crate::leaf::leaf;
+use crate::restrict::{restrict_binary, restrict_source};
 use crate::setup::Setup;
-use crate::whole::whole;
+use crate::wait::wait;
 use attempt::Refusal;
+use graph_core::Graph;
 use graph_core_spec::Mark;
 use proof_tree::{Hold, Setting, is_line};
 use sim_rules_terms::first_bad;
@@ -42,17 +42,6 @@ pub enum Rule<'a> {
     Cut(&'a [u32], &'a [Box<Term>]),
     /// the binary alone comes to an open hold
     Wait(Hold<'a>),
-}
-
-// What a rule's obligations are of.
-#[derive(Clone, Copy)]
-enum Kind<'a> {
-    /// a term that has to be a line
-    OfTerm(&'a Term),
-    /// lines in the source body of this path
-    OfLines(&'a [u32], &'a [Box<Term>]),
-    /// both sides' walks
-    OfWalks(Walking<'a>),
 }
 
 // A Case or a cut leaves nothing to show, where its terms are lines.
@@ -93,36 +82,27 @@ fn nothing_by(
     }
 }
 
-// What a rule's obligations are of.
-fn kind_of<'a>(rule: Rule<'a>) -> Kind<'a>
-    ensures { rule_by result ≡ rule_of rule.entry }
-{
-    match rule {
-        Rule::Leaf => Kind::OfWalks(Walking::Leaf),
-        Rule::Case(test) => Kind::OfTerm(test),
-        Rule::RestrictBinary(bound) => Kind::OfWalks(Walking::RestrictBinary(bound)),
-        Rule::RestrictSource(bound) => Kind::OfWalks(Walking::RestrictSource(bound)),
-        Rule::Cut(path, lines) => Kind::OfLines(path, lines),
-        Rule::Wait(hold) => Kind::OfWalks(Walking::Wait(hold)),
-    }
-}
-
-// The same of any rule.
-fn answer(
+// The obligations of a rule at a frame; `empty` in place of graphs that are not there.
+fn obligations_over(
     alloc: Global,
     setup: &Setup<'_>,
     rule: Rule<'_>,
+    empty: &Graph,
     bank: &mut Bank,
 ) -> Result<Vec<TermId>, Refusal<RuleFault>>
-    requires { IsOpeningIn (length bank.old) setup.now.opening }
+    requires empty { graph_of empty.now ≡ nodes.empty }
+    requires opening { IsOpeningIn (length bank.old) setup.now.opening }
     ensures answer { IsAnswer bank.old bank.new setup.now (rule_of rule.entry) result }
     ensures extends { Extends bank.old bank.new }
 {
     let frame = setup.frame;
-    match kind_of(rule) {
-        Kind::OfTerm(test) => nothing_by(alloc, frame.setting, frame.start.path, test),
-        Kind::OfLines(path, lines) => nothing(alloc, frame.setting, path, lines),
-        Kind::OfWalks(walking) => whole(alloc, bank, setup, &walking),
+    match rule {
+        Rule::Leaf => leaf(alloc, setup, empty, bank),
+        Rule::Case(test) => nothing_by(alloc, frame.setting, frame.start.path, test),
+        Rule::RestrictBinary(bound) => restrict_binary(alloc, setup, empty, bound, bank),
+        Rule::RestrictSource(bound) => restrict_source(alloc, setup, empty, bound, bank),
+        Rule::Cut(path, lines) => nothing(alloc, frame.setting, path, lines),
+        Rule::Wait(hold) => wait(alloc, setup, empty, &hold, bank),
     }
 }
 
@@ -136,16 +116,9 @@ pub fn obligations(
     bank: &mut Bank,
 ) -> Result<Vec<TermId>, Refusal<RuleFault>>
     requires { IsOpeningIn (length bank.old) setup.now.opening }
-    ensures terms { (c : points.Convention) (o : rules.Opening) → IsSetup bank.old c o setup.now
-        → IfOk result (λ ids. AreObligations bank.new c o (frame_of setup.now.frame.now)
-        (rule_of rule.entry) ids.items) }
-    ensures within { IfOk result (λ ids. All (λ id. id < length bank.new) ids.items) }
-    ensures lines { OnOk result (HasLines (frame_of setup.now.frame.now) (rule_of rule.entry)) }
-    ensures few { (o : rules.Opening) → OnOk result (HasFewVisits o (frame_of setup.now.frame.now)
-        setup.now.maximum (rule_of rule.entry)) }
-    ensures fault { (o : rules.Opening) → IfErr result (IsRuleFault o (frame_of setup.now.frame.now)
-        setup.now.maximum (rule_of rule.entry)) }
+    ensures answer { IsAnswer bank.old bank.new setup.now (rule_of rule.entry) result }
     ensures extends { Extends bank.old bank.new }
 {
-    answer(alloc, setup, rule, bank)
+    let empty = Graph::new(alloc);
+    obligations_over(alloc, setup, rule, &empty, bank)
 }

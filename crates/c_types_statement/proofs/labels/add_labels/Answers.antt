@@ -4,7 +4,7 @@ use Rattle.c_types_spec.specs.Statements as rule
 use Rattle.c_types_scope.specs.States.{state_of}
 use Rattle.c_types_statement.specs.Labels.{one_label}
 use Rattle.c_types_statement.proofs.LabelSets.{labels-row}
-use Rattle.c_types_statement.proofs.Steps.{step-kept, step-failed}
+use Rattle.c_types_scope.proofs.Steps.{step-kept, step-failed}
 use Rattle.c_types_statement.proofs.labels.add_labels.Goals as goal
 
 pub loop-item-preserved : goal.loop-item-preserved

@@ -10,7 +10,7 @@ use Rattle.c_types_statement.specs.Groups.{one_part, one_group}
 use Rattle.c_types_statement.specs.Switches.{so_far}
 use Rattle.c_types_statement.proofs.Lists.{parts-row}
 use Rattle.c_types_statement.proofs.SwitchGroups.{groups-row}
-use Rattle.c_types_statement.proofs.Steps.{step-kept, step-failed}
+use Rattle.c_types_scope.proofs.Steps.{step-kept, step-failed}
 use Rattle.c_types_statement.proofs.statement.+statements.Goals as goal
 
 pub parts-loop-part-preserved : goal.parts-loop-part-preserved
@@ -50,3 +50,9 @@ groups-returns-in-Err t c =
     step-failed {C = Unit {0}} (rule.switch_groups (groups_of (map group_of (unboxed (drop at.i c.args.list.now)))) context c.args.of at.seen.keys (map core_group_of at.done.items) st) _ (one_group (group_of c.deref.result.now) c.is_last-last.result context c.args.of before st) (λ more. rule.switch_groups (groups_of (map group_of (unboxed (drop (at.i + 1) c.args.list.now)))) context c.args.of more.0.seen more.0.done more.1)
     c.in-Err.fault (λ _. so_far c.one_group.new.seen.keys c.one_group.new.done) (λ _. rule.groups_in (map core_group_of c.one_group.new.done.items)) c.one_group.new.state
     (groups-row c.args.list.now at.i c.index-list-i.result c.deref.result.now c.is_last-last.result context c.args.of before st c.index-list-i.is c.deref.ensures c.is_last-last.ensures (search rules)) c.in-Err.ensures at.invariant
+
+pub statement-if_else-requires : goal.statement-if_else-requires
+statement-if_else-requires t c = (search rules, (_, _, _, _, c.in-IfElse.is))
+
+pub if_else-unreachable-requires : goal.if_else-unreachable-requires
+if_else-unreachable-requires t c = c.in_default.not-IfElse c.requires.0 c.requires.1 c.requires.2 c.requires.3 c.requires.4

@@ -8,7 +8,7 @@ use Rattle.cert_check_frames.specs.Jobs.{AreBelow, AreInside, logs_last}
 use Rattle.cert_check.specs.Jobs.{jobs_of}
 use Rattle.cert_check.proofs.Pushed.{inside_top}
 use Rattle.cert_check.proofs.Tops.{leaf_top, leaf_follows}
-use Rattle.cert_check.proofs.InPart.{leaf_passes, leaf_fails, logs_fail, goals_for}
+use Rattle.cert_check.proofs.InPart.{leaf_passes, leaf_fails, logs_fail, goals_for, fault_for}
 use Rattle.cert_check.proofs.Leaving.{first_inside, leaf_kept}
 use Rattle.cert_check.proofs.rules.leaf.Goals as goal
 
@@ -21,40 +21,44 @@ leaf_goals-requires-clause-below c =
     (first_inside c.args.function.now c.args.bank.now c.args.bank.now _ _ c.args.jobs.now.items c.take_proof-premises.new.jobs.items (Prove c.take_proof-premises.result) c.requires.kept
     (extends_itself c.args.bank.now) c.take_proof-premises.ensures)
 
+pub leaf_goals-requires-clause-opened : goal.leaf_goals-requires-clause-opened
+leaf_goals-requires-clause-opened c = record { of_binary = c.requires.kept.opened.0; of_source = c.requires.kept.opened.1 }
+
 -- no obligations
-pub returns-clause-step : goal.returns-clause-step
-returns-clause-step c = λ listed ahead parts f is.
+pub returns-in-Err-clause-step : goal.returns-in-Err-clause-step
+returns-in-Err-clause-step c = λ listed ahead parts f is.
     leaf_fails listed ahead parts c.args.function.now f is c.args.bank.now c.leaf_goals.new.bank c.args.jobs.now.items c.take_proof-premises.new.jobs.items c.take_proof-premises.new.jobs.items
-    c.take_proof-premises.result c.args.logs c.in-Err-attempt.field-0 c.take_proof-premises.ensures
-    (goals_for f c.leaf_goals.new.bank c.args.bank.now c.as_slice.result.now c.take_proof-premises.result.items (Err c.in-Err-attempt.field-0) c.as_slice.ensures.value (c.in-Err-attempt.ensures.goals f is))
+    c.take_proof-premises.result c.args.logs c.leaf_fault.result c.take_proof-premises.ensures
+    (fault_for f c.leaf_goals.new.bank c.args.bank.now c.as_slice.result.now c.take_proof-premises.result.items c.in-Err.refusal c.leaf_fault.result c.as_slice.ensures.value c.leaf_fault.ensures
+    (c.in-Err.ensures.goals f is))
 
 -- another number
 pub returns-then-len-logs-clause-step : goal.returns-then-len-logs-clause-step
 returns-then-len-logs-clause-step c = λ listed ahead parts f is.
     logs_fail listed ahead parts c.args.function.now f is c.args.bank.now c.leaf_goals.new.bank c.args.jobs.now.items c.take_proof-premises.new.jobs.items c.take_proof-premises.result c.args.logs
-    c.in-Ok-attempt.field-0 c.take_proof-premises.ensures
-    (goals_for f c.leaf_goals.new.bank c.args.bank.now c.as_slice.result.now c.take_proof-premises.result.items (Ok c.in-Ok-attempt.field-0) c.as_slice.ensures.value (c.in-Ok-attempt.ensures.goals f is))
-    (λ same. c.if-len-logs.true (omega (arith, same, c.in-Ok-attempt.field-0.ok.0)))
+    c.in-Ok.goals c.take_proof-premises.ensures
+    (goals_for f c.leaf_goals.new.bank c.args.bank.now c.as_slice.result.now c.take_proof-premises.result.items c.in-Ok.goals c.as_slice.ensures.value (c.in-Ok.ensures.goals f is))
+    (λ same. c.if-len-logs.true (omega (arith, same, c.in-Ok.goals.ok.0)))
 
-pub returns-3-clause-step : goal.returns-3-clause-step
-returns-3-clause-step c = λ listed ahead parts f is.
+pub returns-2-clause-step : goal.returns-2-clause-step
+returns-2-clause-step c = λ listed ahead parts f is.
     let inside = inside_top (length c.args.bank.now) c.take_proof-premises.new.jobs.items _ (subst (AreInside (length c.args.bank.now)) c.take_proof-premises.ensures c.requires.kept.inside) in
-    let count : length c.in-Ok-attempt.field-0.items ≡ c.args.logs = omega (arith, c.in-Ok-attempt.field-0.ok.0, c.if-len-logs.false) in
+    let count : length c.in-Ok.goals.items ≡ c.args.logs = omega (arith, c.in-Ok.goals.ok.0, c.if-len-logs.false) in
     subst (λ (n : ℕ). Passes listed ahead (Inside parts f (jobs_of c.args.bank.now (frame_at c.args.function.now) c.args.jobs.now.items)) (Leaf n)
     (Inside parts f (jobs_of c.leaf_goals.new.bank (frame_at c.args.function.now) c.push_goals.new.jobs.items))) count
     (leaf_passes listed ahead parts c.args.function.now f is c.args.bank.now c.leaf_goals.new.bank c.args.jobs.now.items c.take_proof-premises.new.jobs.items c.push_goals.new.jobs.items
-    c.take_proof-premises.result c.in-Ok-attempt.field-0 c.leaf_goals.ensures.extends c.take_proof-premises.ensures inside.0
-    (c.in-Ok-attempt-2.ensures ∙ ap (λ (l : List ℕ). c.take_proof-premises.new.jobs.items ++ logs_last l) c.as_slice-2.ensures.value)
-    (goals_for f c.leaf_goals.new.bank c.args.bank.now c.as_slice.result.now c.take_proof-premises.result.items (Ok c.in-Ok-attempt.field-0) c.as_slice.ensures.value (c.in-Ok-attempt.ensures.goals f is)))
+    c.take_proof-premises.result c.in-Ok.goals c.leaf_goals.ensures.extends c.take_proof-premises.ensures inside.0
+    (c.in-Ok-attempt.ensures ∙ ap (λ (l : List ℕ). c.take_proof-premises.new.jobs.items ++ logs_last l) c.as_slice-2.ensures.value)
+    (goals_for f c.leaf_goals.new.bank c.args.bank.now c.as_slice.result.now c.take_proof-premises.result.items c.in-Ok.goals c.as_slice.ensures.value (c.in-Ok.ensures.goals f is)))
 
-pub returns-3-clause-kept : goal.returns-3-clause-kept
-returns-3-clause-kept c =
+pub returns-2-clause-kept : goal.returns-2-clause-kept
+returns-2-clause-kept c =
     leaf_kept c.args.function.now c.args.bank.now c.leaf_goals.new.bank _ _ c.args.jobs.now.items c.take_proof-premises.new.jobs.items (Prove c.take_proof-premises.result) c.requires.kept
-    c.leaf_goals.ensures.extends c.take_proof-premises.ensures c.push_goals.new.jobs.items c.in-Ok-attempt.field-0.items c.in-Ok-attempt.ensures.within
-    (c.in-Ok-attempt-2.ensures ∙ ap (λ (l : List ℕ). c.take_proof-premises.new.jobs.items ++ logs_last l) c.as_slice-2.ensures.value)
+    c.leaf_goals.ensures.extends c.take_proof-premises.ensures c.push_goals.new.jobs.items c.in-Ok.goals.items c.in-Ok.ensures.within
+    (c.in-Ok-attempt.ensures ∙ ap (λ (l : List ℕ). c.take_proof-premises.new.jobs.items ++ logs_last l) c.as_slice-2.ensures.value)
 
-pub returns-3-clause-follows : goal.returns-3-clause-follows
-returns-3-clause-follows c =
-    leaf_follows c.args.logs c.args.jobs.now.items c.take_proof-premises.new.jobs.items c.push_goals.new.jobs.items c.take_proof-premises.result c.in-Ok-attempt.field-0.items
-    c.take_proof-premises.ensures (omega (arith, c.in-Ok-attempt.field-0.ok.0, c.if-len-logs.false))
-    (c.in-Ok-attempt-2.ensures ∙ ap (λ (l : List ℕ). c.take_proof-premises.new.jobs.items ++ logs_last l) c.as_slice-2.ensures.value)
+pub returns-2-clause-follows : goal.returns-2-clause-follows
+returns-2-clause-follows c =
+    leaf_follows c.args.logs c.args.jobs.now.items c.take_proof-premises.new.jobs.items c.push_goals.new.jobs.items c.take_proof-premises.result c.in-Ok.goals.items
+    c.take_proof-premises.ensures (omega (arith, c.in-Ok.goals.ok.0, c.if-len-logs.false))
+    (c.in-Ok-attempt.ensures ∙ ap (λ (l : List ℕ). c.take_proof-premises.new.jobs.items ++ logs_last l) c.as_slice-2.ensures.value)

@@ -1,12 +1,12 @@
 use Rattle.std.proofs.Common.{ℕ, List, sym, subst}
-use Rattle.prove_run.specs.Goals.{HasGoals}
+use Rattle.cert_check_leaf.specs.Goals.{HasGoals}
 use Rattle.prove_run.proofs.Searched.{found_there}
 use Rattle.prove_run.proofs.search.find_in.Goals as goal
 
 pub returns-in-Ok : goal.returns-in-Ok
 returns-in-Ok g c = λ f is truths.
     found_there f c.leaf_obligations.new.bank c.as_slice.result.now
-    (subst (λ (ids : List ℕ). HasGoals f.convention f.opening f.frame c.leaf_obligations.new.bank ids) (sym c.as_slice.ensures.value) (c.in-Ok.ensures.goals f is))
+    (subst (λ (ids : List ℕ). HasGoals f f.frame c.leaf_obligations.new.bank ids) (sym c.as_slice.ensures.value) (c.in-Ok.ensures.goals f is))
     c.args.function.now is truths c.search.result c.search.ensures
 
 pub returns-in-Err : goal.returns-in-Err
