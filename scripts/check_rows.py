@@ -5,7 +5,8 @@
     scripts/check_rows.py FILE      each row of this file; one whose answer is `?` is printed with its answer
 
 It is run outside the gate and needs nothing else. Values, normal forms, and clauses are those of `terms.py`; sorts,
-flat terms, assignments read back, and steps of logs are written here.
+flat terms, assignments read back, and steps of logs are written here. Logs of goals and searches (`close`,
+`seek`, `sat`) are left out: `compare_search.py` compares the search with other solvers.
 """
 
 import sys
@@ -17,6 +18,7 @@ FIXED = {16 + i: b for i, b in enumerate((80, 117, 154, 191, 228, 9, 46, 83))} |
 ARITY = {"not": 1, "bnot": 1, "ite": 3, "store8": 3, "over": 4, "join2": 2, "join4": 4, "join8": 8}
 BINARY = "and or eq ult load8 add sub mul band bor bxor shl shr sar udiv urem".split()
 BY_HAND = ("indices", "twice")
+LEFT_OUT = ("close", "seek", "sat")
 
 
 # ---- terms
@@ -324,7 +326,7 @@ def main(rows):
         first, _, text = question.partition(" ")
         name, _, detail = first.partition(":")
         counted[name] = counted.get(name, 0) + 1
-        if any(word in question for word in BY_HAND):
+        if name in LEFT_OUT or any(word in question for word in BY_HAND):
             continue
         made, values = answer(name, detail, text, form, values)
         if form == "?":

@@ -9,7 +9,7 @@
                                                   beside those of an earlier program
 
 It is run outside the gate and needs minisat and cadical (Debian: minisat, cadical) on the path, and the program
-`sat_rows` as `rt run` builds it in its folder. `suite` needs gcc, clang and lld besides, as compare_compilers.py does,
+`term_rows` as `rt run` builds it in its folder. `suite` needs gcc, clang and lld besides, as compare_compilers.py does,
 and the program `tv_rows`, whose rows write the goals.
 
 Clause sets of goals of words are made by `terms.py`, which makes the clauses that `bit_blast` makes
@@ -83,7 +83,7 @@ def other(solver, count, rows):
 def question(word, limit, count, rows):
     """A row that asks the program about clauses."""
     listed = ",".join(" ".join(map(str, row)) or "none" for row in rows)
-    return f"{word}clauses:{limit} {count} {listed} = ?\n"
+    return f"sat {word}clauses:{limit} {count} {listed} = ?\n"
 
 
 def asked(program, texts):
@@ -475,13 +475,13 @@ def compare_compiled(folder, program, before=None):
 
 
 if __name__ == "__main__":
-    sat_rows = ROOT / "crates/sat_rows/out/sat_rows"
+    term_rows = ROOT / "crates/term_rows/out/term_rows"
     job, words = (sys.argv[1:2] or [""])[0], sys.argv[2:]
     if job in ("sets", "goals") and len(words) < 2:
-        where = Path(words[0]) if words else sat_rows
+        where = Path(words[0]) if words else term_rows
         sys.exit(bool({"sets": compare_sets, "goals": compare_goals}[job](where)))
     if job == "suite" and len(words) == 1:
         sys.exit(write_suite(words[0]))
     if job == "compiled" and 1 <= len(words) <= 3:
-        sys.exit(compare_compiled(words[0], *(words[1:] or [sat_rows])))
+        sys.exit(compare_compiled(words[0], *(words[1:] or [term_rows])))
     sys.exit(__doc__)

@@ -11,7 +11,7 @@ hint, and begin anew as often as the last argument says, so that a run takes lon
 alternate, and of each the one with the least processor time counts. Where code begins changes its speed, so both
 programs are linked behind 0, 16, 32 and 48 bytes more, and of chains the mean of the four counts. Each row is a chain:
 steps, hints a step, literals a hint's clause, millions of hints a second here and in C, their quotient, and the peak of
-memory of one round. The logs of the search are those that `sat_rows` prints, as `rt run` builds it in its folder;
+memory of one round. The logs of the search are those that `term_rows` prints, as `rt run` builds it in its folder;
 reading a log counts in no run. The kit is in /opt/rattle, or where RATTLE_KIT says.
 """
 
@@ -339,7 +339,7 @@ def main():
         in_c = Path(folder, "log_checker")
         subprocess.run(["gcc", "-O2", "-o", str(in_c), str(ROOT / "scripts/log_checker.c")], check=True)
         if sys.argv[1:2] == ["own"]:
-            own(Path(folder), in_c, Path(sys.argv[2]) if len(sys.argv) > 2 else ROOT / "crates/sat_rows/out/sat_rows")
+            own(Path(folder), in_c, Path(sys.argv[2]) if len(sys.argv) > 2 else ROOT / "crates/term_rows/out/term_rows")
         else:
             chains(Path(folder))
 

@@ -10,7 +10,7 @@ use cnf_core::Literal;
 use std::alloc::{AllocError, Global};
 
 /// A gate of two bits.
-#[derive(Clone, Copy, Debug)]
+#[derive(Clone, Copy)]
 pub enum Connective {
     /// both
     And,
@@ -23,7 +23,7 @@ pub enum Connective {
 }
 
 /// What is done to each bit of a word.
-#[derive(Clone, Copy, Debug)]
+#[derive(Clone, Copy)]
 pub(crate) enum With {
     /// the bit and this one
     AndAfter(Literal),

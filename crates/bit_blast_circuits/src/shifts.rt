@@ -10,7 +10,7 @@ use cnf_core::{Literal, negation};
 use std::alloc::{AllocError, Global};
 
 /// How a word is moved.
-#[derive(Clone, Copy, Debug)]
+#[derive(Clone, Copy)]
 pub enum Shift {
     /// up, after zeros
     Up,

@@ -15,7 +15,7 @@ pub const STATEMENT_FUEL: usize = NESTING_LIMIT + 1;
 pub const EXPRESSION_FUEL: usize = 8 * (NESTING_LIMIT + 1 + (OPERATOR_LIMIT + 1)) + 4;
 
 /// A part of C that is left out, which a token at fault belongs to.
-#[derive(Clone, Copy, Debug, PartialEq, Eq)]
+#[derive(Clone, Copy, Debug)]
 pub enum LeftOut {
     /// `goto`, and a label that is no label of a `switch`
     Goto,
@@ -46,7 +46,7 @@ pub enum LeftOut {
 }
 
 /// Why tokens are no unit.
-#[derive(Clone, Copy, Debug, PartialEq, Eq)]
+#[derive(Clone, Copy, Debug)]
 pub enum ParseFaultKind {
     /// No unit has this token, or its end, here.
     Unexpected,

@@ -7,7 +7,7 @@
 
 /// What a run may not do, in the order of their numbers. A run that does it breaks this guard, and
 /// has no further meaning.
-#[derive(Clone, Copy, PartialEq, Eq)]
+#[derive(Clone, Copy)]
 pub enum Guard {
     /// It reads a local that has no value yet.
     UnsetLocal,

@@ -5,7 +5,7 @@
 
 /// An operator between two operands (6.5.5 to 6.5.14), the loosest first. In `a op= b` it is the
 /// `op`.
-#[derive(Clone, Copy, Debug, PartialEq, Eq)]
+#[derive(Clone, Copy, Debug)]
 pub enum BinaryOperator {
     /// `||`
     LogicalOr,
@@ -46,7 +46,7 @@ pub enum BinaryOperator {
 }
 
 /// An operator before its operand (6.5.3).
-#[derive(Clone, Copy, Debug, PartialEq, Eq)]
+#[derive(Clone, Copy, Debug)]
 pub enum UnaryOperator {
     /// `&`
     AddressOf,
@@ -63,7 +63,7 @@ pub enum UnaryOperator {
 }
 
 /// How a member is named (6.5.2.3).
-#[derive(Clone, Copy, Debug, PartialEq, Eq)]
+#[derive(Clone, Copy, Debug)]
 pub enum Access {
     /// `.`, of a struct
     Dot,
@@ -72,7 +72,7 @@ pub enum Access {
 }
 
 /// A change by one (6.5.2.4, 6.5.3.1).
-#[derive(Clone, Copy, Debug, PartialEq, Eq)]
+#[derive(Clone, Copy, Debug)]
 pub enum StepOperator {
     /// `++`
     Increment,
@@ -81,7 +81,7 @@ pub enum StepOperator {
 }
 
 /// An integer type that is named by keywords (6.7.2).
-#[derive(Clone, Copy, Debug, PartialEq, Eq)]
+#[derive(Clone, Copy, Debug)]
 pub enum IntegerType {
     /// `char`
     Char,

@@ -195,7 +195,7 @@ pub enum Punctuator {
 }
 
 /// The type of a number (6.4.4.1), `long` being the same type as `int`.
-#[derive(Clone, Copy, Debug, PartialEq, Eq)]
+#[derive(Clone, Copy)]
 pub enum NumberType {
     /// `int`, of 32 bits
     SignedInt,
@@ -208,7 +208,7 @@ pub enum NumberType {
 }
 
 /// What the suffix of a number asks of its type.
-#[derive(Clone, Copy, Debug, PartialEq, Eq)]
+#[derive(Clone, Copy)]
 pub struct Suffix {
     /// An unsigned type.
     pub is_unsigned: bool,
@@ -217,7 +217,7 @@ pub struct Suffix {
 }
 
 /// Why a text has no tokens. The offset of each is that of the first byte of what is at fault.
-#[derive(Clone, Copy, Debug, PartialEq, Eq)]
+#[derive(Clone, Copy, Debug)]
 pub enum TokenFaultKind {
     /// A byte that begins no token.
     Byte,

@@ -15,7 +15,7 @@ use cnf_core::{ClauseList, Literal, negation};
 use thiserror::Error;
 
 /// Why and where a step doesn't follow: its first fault.
-#[derive(Clone, Copy, Debug, PartialEq, Eq, Error)]
+#[derive(Clone, Copy, Debug, Error)]
 #[error("{kind:?} at hint {hint}")]
 pub struct StepFault {
     /// The number of the hint, counted from 1; 0 for the literals, the number of hints for `Open`.

@@ -4,7 +4,7 @@
 #![tactic(auto)]
 
 /// A variable or its negation. Variables are numbered from 1.
-#[derive(Clone, Copy, PartialEq, Eq, Debug)]
+#[derive(Clone, Copy)]
 pub struct Literal {
     /// The number of the variable.
     pub variable: usize,
@@ -13,7 +13,7 @@ pub struct Literal {
 }
 
 /// Why a step does not follow.
-#[derive(Clone, Copy, PartialEq, Eq, Debug)]
+#[derive(Clone, Copy, Debug)]
 pub enum StepFaultKind {
     /// Its literals name a variable twice, or one that the clauses lack.
     Literals,

@@ -10,7 +10,7 @@ pub const MAX_VARIABLE: usize = 0x7FFF_FFFF;
 /// A variable or its negation. Variables are numbered from 1 to [`MAX_VARIABLE`].
 ///
 /// It is kept as its code: twice the variable, and one more for the negation.
-#[derive(Clone, Copy, Debug)]
+#[derive(Clone, Copy)]
 pub struct Literal {
     code: u32,
 }

@@ -16,7 +16,7 @@ use rv_instr::Instr;
 use thiserror::Error;
 
 /// What is wrong with code, and at which address.
-#[derive(Clone, Copy, Debug, PartialEq, Eq, Error)]
+#[derive(Clone, Copy, Debug, Error)]
 #[error("{kind:?} at {address}")]
 pub struct CodeFault {
     /// What is wrong.

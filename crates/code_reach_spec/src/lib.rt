@@ -7,7 +7,7 @@
 #![tactic(auto)]
 
 /// Why the code of a function is refused, in the order in which kinds at one address are answered.
-#[derive(Clone, Copy, Debug, PartialEq, Eq)]
+#[derive(Clone, Copy, Debug)]
 pub enum CodeKind {
     /// A call's target is no function.
     NoFunction,

@@ -3,7 +3,7 @@
 use elf_read::{Segment, Symbol};
 
 /// What an executable is made of.
-#[derive(Clone, Copy, Debug)]
+#[derive(Clone, Copy)]
 pub struct Parts<'a> {
     /// The segments, in the order of their headers.
     pub segments: &'a [Segment<'a>],

@@ -20,7 +20,7 @@ use std::marker::Model;
 
 /// What an executable holds: its segments in the order of their headers, its defined symbols in the
 /// order of their table. It borrows the file.
-#[derive(Debug, Drop)]
+#[derive(Drop)]
 pub struct Image<'a> {
     segments: Vec<Segment<'a>>,
     symbols: Vec<Symbol<'a>>,

@@ -16,7 +16,7 @@ use std::alloc::{AllocError, Global};
 use std::collections::BTreeMap;
 
 /// The values of functions and of globals, by the nodes of their names.
-#[derive(Debug, Drop)]
+#[derive(Drop)]
 pub(crate) struct Named<'a> {
     pub tree: Tree<'a>,
     /// The node of the name of each symbol.

@@ -1,7 +1,7 @@
 //! The parts of an image.
 
 /// A segment that is loaded: a program header of type `PT_LOAD` (System V ABI, program header).
-#[derive(Clone, Copy, Debug)]
+#[derive(Clone, Copy)]
 pub struct Segment<'a> {
     /// `p_vaddr`, the address of its first byte.
     pub vaddr: u32,
@@ -14,7 +14,7 @@ pub struct Segment<'a> {
 }
 
 /// A symbol that is defined: its `st_shndx` isn't 0 (System V ABI, symbol table).
-#[derive(Clone, Copy, Debug)]
+#[derive(Clone, Copy)]
 pub struct Symbol<'a> {
     /// Its name, without the 0 byte that ends it.
     pub name: &'a [u8],
@@ -27,7 +27,7 @@ pub struct Symbol<'a> {
 }
 
 /// The addresses of a run of fixed bytes.
-#[derive(Clone, Copy, Debug, PartialEq, Eq)]
+#[derive(Clone, Copy)]
 pub struct Extent {
     /// The first one.
     pub first: u32,

@@ -22,7 +22,7 @@ use std::alloc::Global;
 use thiserror::Error;
 
 /// Why and where a file is refused: its first fault.
-#[derive(Clone, Copy, Debug, PartialEq, Eq, Error)]
+#[derive(Clone, Copy, Debug, Error)]
 #[error("{kind:?} at {offset}")]
 pub struct ElfFault {
     /// What the file lacks.

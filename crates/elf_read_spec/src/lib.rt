@@ -13,7 +13,7 @@ pub use laws::runs_are_the_fixed_bytes;
 
 /// Why a file is no executable that is read here, in the order in which it is tried (System V ABI,
 /// ELF header, program header, section header and symbol table; RISC-V psABI, e_flags).
-#[derive(Clone, Copy, Debug, PartialEq, Eq)]
+#[derive(Clone, Copy, Debug)]
 pub enum ElfKind {
     /// It is too short for an ELF header.
     Short,
@@ -53,7 +53,7 @@ pub enum ElfKind {
 }
 
 /// The values of the symbols of a type and a name.
-#[derive(Clone, Copy, Debug, PartialEq, Eq)]
+#[derive(Clone, Copy, PartialEq, Eq)]
 pub enum SymbolValues {
     /// There is none.
     Absent,

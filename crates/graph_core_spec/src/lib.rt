@@ -9,7 +9,7 @@
 #![tactic(auto)]
 
 /// Where a run continues.
-#[derive(Clone, Copy, PartialEq, Eq, Debug)]
+#[derive(Clone, Copy)]
 pub enum Next {
     /// at this node of the same graph
     At(usize),

@@ -5,7 +5,7 @@ use term_core_spec::Variable;
 
 /// A load by terms without loads. The byte is a variable of the family `LoadedByte`, whose index is
 /// the load's number among the loads of its term.
-#[derive(Clone, Copy, PartialEq, Eq, Debug)]
+#[derive(Clone, Copy, Debug)]
 pub struct LoadIds {
     /// the memory that is loaded from
     pub memory: Variable,

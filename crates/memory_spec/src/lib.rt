@@ -4,7 +4,7 @@
 #![tactic(auto)]
 
 /// Bytes at addresses one after the other.
-#[derive(Debug, Drop)]
+#[derive(Drop)]
 pub struct Run {
     /// The address of the first byte.
     pub start: u32,

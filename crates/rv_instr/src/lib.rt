@@ -14,7 +14,7 @@ mod reg;
 pub use reg::Reg;
 
 /// What a conditional branch asks of its two registers.
-#[derive(Clone, Copy, PartialEq, Eq, Debug)]
+#[derive(Clone, Copy, Debug)]
 pub enum BranchTest {
     /// BEQ
     Equal,
@@ -31,7 +31,7 @@ pub enum BranchTest {
 }
 
 /// What a load reads, and how it fills the register.
-#[derive(Clone, Copy, PartialEq, Eq, Debug)]
+#[derive(Clone, Copy, Debug)]
 pub enum LoadKind {
     /// LB: one byte, sign extended
     Byte,
@@ -46,7 +46,7 @@ pub enum LoadKind {
 }
 
 /// How many low bytes of the register a store writes.
-#[derive(Clone, Copy, PartialEq, Eq, Debug)]
+#[derive(Clone, Copy, Debug)]
 pub enum StoreKind {
     /// SB: one byte
     Byte,
@@ -57,7 +57,7 @@ pub enum StoreKind {
 }
 
 /// An operation of a register and a 12-bit signed immediate.
-#[derive(Clone, Copy, PartialEq, Eq, Debug)]
+#[derive(Clone, Copy, Debug)]
 pub enum ImmediateOperation {
     /// ADDI
     Add,
@@ -74,7 +74,7 @@ pub enum ImmediateOperation {
 }
 
 /// A shift by an amount that is a field of the word.
-#[derive(Clone, Copy, PartialEq, Eq, Debug)]
+#[derive(Clone, Copy, Debug)]
 pub enum ShiftOperation {
     /// SLLI
     Left,
@@ -85,7 +85,7 @@ pub enum ShiftOperation {
 }
 
 /// An operation of two registers.
-#[derive(Clone, Copy, PartialEq, Eq, Debug)]
+#[derive(Clone, Copy, Debug)]
 pub enum ArithmeticOperation {
     /// ADD
     Add,
@@ -130,7 +130,7 @@ pub enum ArithmeticOperation {
 /// An `offset` or `imm` of type `i32` is the word's immediate, sign extended; offsets count bytes,
 /// and those of JAL and of branches are even. `imm` of LUI and AUIPC is the number in bits 31..12
 /// of the word, below 2^20: `lui x10, 1` has 1. A shift's `amount` is below 32.
-#[derive(Clone, Copy, PartialEq, Eq, Debug)]
+#[derive(Clone, Copy, Debug)]
 pub enum Instr {
     /// LUI
     Lui {

@@ -3,7 +3,7 @@ ghost use Rattle.std.specs.Prelude.{◌≡◌, ℕ, ◌<◌};
 use std::marker::Model;
 
 /// One of the 32 integer registers, by its number: `x0` to `x31`.
-#[derive(Clone, Copy, PartialEq, Eq, Debug)]
+#[derive(Clone, Copy, Debug)]
 pub struct Reg {
     number: u8,
 }

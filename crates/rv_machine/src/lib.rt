@@ -20,7 +20,7 @@ use rv_instr::{LoadKind, Reg, StoreKind};
 pub use stepping::{run, step};
 
 /// What an instruction does to the machine, its operands read.
-#[derive(Clone, Copy, PartialEq, Eq, Debug)]
+#[derive(Clone, Copy, Debug)]
 pub enum Effect {
     /// The value goes into the register, and the next instruction follows.
     Put {
@@ -55,7 +55,7 @@ pub enum Effect {
 }
 
 /// How a step ended, unless out of memory.
-#[derive(Clone, Copy, PartialEq, Eq, Debug)]
+#[derive(Clone, Copy, Debug)]
 pub enum Stepped {
     /// The instruction is executed.
     Went,
@@ -64,7 +64,7 @@ pub enum Stepped {
 }
 
 /// How a run ended, unless out of memory.
-#[derive(Clone, Copy, PartialEq, Eq, Debug)]
+#[derive(Clone, Copy, Debug)]
 pub enum Ran {
     /// pc is the address to stop at.
     Stopped,

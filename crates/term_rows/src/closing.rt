@@ -12,7 +12,7 @@ use crate::logs::add_steps;
 use attempt::{Refusal, attempt};
 use discharge::{CloseFault, Listing, SeekFault, Sought, close, seek};
 use row_io::Out;
-use sat_search_analysis::Step;
+use sat_search::Step;
 use std::alloc::{AllocError, Global};
 use term_bank::{Bank, TermId};
 use term_core::Assignment;

@@ -10,7 +10,7 @@
 
 ghost use Rattle.std.specs.Prelude.{◌<◌, length};
 
-use crate::{Question, Row};
+use crate::{Question, Row, clauses};
 use attempt::{Refusal, attempt};
 use bit_blast::{BlastFault, Blasted, blast, read_back};
 use cnf_core::{Cnf, Literal, eval};
@@ -26,19 +26,11 @@ fn put_size(cnf: &Cnf, out: &mut Out) {
     out.show(&cnf.len());
 }
 
-fn put_clause(clause: &[Literal], out: &mut Out) {
-    for literal in clause {
-        out.put(if literal.is_negated() { " -" } else { " " });
-        out.show(&literal.variable());
-    }
-    out.put(" 0");
-}
-
 fn put_clauses(cnf: &Cnf, from: u64, out: &mut Out) {
     out.put(":");
     for index in from as usize..cnf.len() {
         if let Some(clause) = cnf.clause(index) {
-            put_clause(clause, out);
+            clauses::put(clause, out);
         }
     }
 }

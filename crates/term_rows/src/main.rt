@@ -1,13 +1,17 @@
-//! Rows of terms, goals and logs, each with the answer that is expected of it.
+//! Rows of terms, goals, clauses and logs, each with the answer that is expected of it.
 //!
 //! A row is `QUESTION WORDS = ANSWER`; each is printed with `ok`, or with what was found in place
-//! of the answer. The modules `terms`, `trees`, `goals`, `closing` and `logs` have the questions,
-//! and `words` has how a term is written. A row without ` = ` is a title.
+//! of the answer. The modules `terms`, `trees`, `goals`, `closing`, `logs` and `searches` have the
+//! questions, `words` has how a term is written, and `clauses` how clauses are. A row without ` = `
+//! is a title.
 #![tactic(auto)]
 
+mod clauses;
 mod closing;
+mod families;
 mod goals;
 mod logs;
+mod searches;
 mod terms;
 mod trees;
 mod words;
@@ -109,6 +113,19 @@ fn ask(
     }
 }
 
+/// Answers a question on a term.
+fn answer_term(
+    alloc: Global,
+    values: &mut Assignment,
+    text: &str,
+    row: Row<'_>,
+    out: &mut Out,
+) -> Result<(), AllocError> {
+    let mut bank = Bank::new(alloc);
+    let mut read = Vec::new(alloc);
+    ask(alloc, values, &mut bank, &mut read, text, row, out)
+}
+
 /// Answers a row.
 fn answer(
     alloc: Global,
@@ -119,17 +136,18 @@ fn answer(
 ) -> Result<(), AllocError> {
     let (first, text) = split(row, ' ');
     let (name, detail) = split(first, ':');
-    if name == "log" {
-        return logs::answer(alloc, decimal(detail), text, out);
+    match name {
+        "log" => logs::answer(alloc, decimal(detail), text, out),
+        "sat" => searches::answer(alloc, text, out),
+        _ => {
+            let row = Row {
+                question: asked(name),
+                detail,
+                form,
+            };
+            answer_term(alloc, values, text, row, out)
+        }
     }
-    let row = Row {
-        question: asked(name),
-        detail,
-        form,
-    };
-    let mut bank = Bank::new(alloc);
-    let mut read = Vec::new(alloc);
-    ask(alloc, values, &mut bank, &mut read, text, row, out)
 }
 
 /// Writes what is found for a row.

@@ -6,7 +6,7 @@ use std::alloc::{AllocError, Global};
 use std::marker::Model;
 
 /// A list of bytes.
-#[derive(Debug, Drop)]
+#[derive(Drop)]
 pub struct Bytes {
     items: Vec<u8>,
 }

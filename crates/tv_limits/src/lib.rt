@@ -34,7 +34,7 @@ pub const NESTING_LIMIT: usize = 128;
 pub const OPERATOR_LIMIT: usize = 128;
 
 /// A quantity that is bounded.
-#[derive(Clone, Copy, Debug, PartialEq, Eq)]
+#[derive(Clone, Copy, Debug)]
 pub enum Quantity {
     /// Bytes of the executable.
     Elf,

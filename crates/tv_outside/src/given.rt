@@ -2,7 +2,7 @@ ghost use Rattle.std.specs.Prelude.{◌≡◌, length, min, take, option_copied}
 ghost use Rattle.tv_outside.specs.Given.{bytes_of};
 
 /// A file that a desk in memory has.
-#[derive(Clone, Copy, Debug)]
+#[derive(Clone, Copy)]
 pub struct GivenFile<'a> {
     /// The name under which it is begun.
     pub name: &'a str,

@@ -75,7 +75,7 @@ pub struct Showing<'a> {
 }
 
 /// Why there is no job.
-#[derive(Clone, Copy, Debug, PartialEq, Eq, Error)]
+#[derive(Clone, Copy, Debug, Error)]
 pub enum WordsFault {
     /// Usage error: the words are no command. A call for help is none either.
     #[error("the words are no command")]

@@ -75,14 +75,26 @@ fn program<'a>(alloc: Global) -> Result<Command<'a>, AllocError>
     ensures { IfOk result (λ program. app_of program ≡ spec.program) }
 {
     let prove = attempt!(prove(alloc));
-    let check = attempt!(check(alloc));
-    let show = attempt!(show(alloc));
     let first = attempt!(
         Command::new(alloc, "tv")
             .subcommand_required(true)
             .subcommand(prove)
     );
+    let check = match check(alloc) {
+        Ok(check) => check,
+        Err(error) => {
+            drop(first);
+            return Err(error);
+        }
+    };
     let second = attempt!(first.subcommand(check));
+    let show = match show(alloc) {
+        Ok(show) => show,
+        Err(error) => {
+            drop(second);
+            return Err(error);
+        }
+    };
     let command = attempt!(second.subcommand(show));
     Ok(command)
 }
