@@ -1,11 +1,12 @@
 //! Operators, and numbers that depend on a width.
 
-ghost use Rattle.std.specs.Prelude.{◌≡◌, ◌-◌, ◌/◌, ◌^◌, IfOk};
+ghost use Rattle.std.specs.Prelude.{◌≡◌, ◌-◌, ◌/◌, ◌^◌, MatchResult};
 ghost use Rattle.term_core_spec.specs.Sort.{bits};
+ghost use Rattle.c_types_core.specs.Widths.{HasWidth};
 ghost use Rattle.c_types_spec.specs.Values as rule;
 
 use c_types_core::constants::has_width;
-use c_types_core::values::convert;
+use c_types_core::values::bits_of as low_bits;
 use c_types_spec::Scalar;
 use std::alloc::AllocError;
 use term_core_spec::{BinaryOperator, Width, WordOperator};
@@ -62,21 +63,14 @@ pub(crate) fn last_place(width: Width) -> u64
     }
 }
 
-/// The bits of a value of a type. A typed core has no type without a bit, or of more than 64; such
-/// a value is answered as out of memory.
-#[tactic(auto, using(c_run_value::proofs::Bits::low_bits))]
+/// The bits of a value of a type; out of memory exactly where the type has no bit, or more than 64,
+/// as none of a typed core has.
 pub(crate) fn bits_of(of: Scalar, value: i128) -> Result<u64, AllocError>
-    ensures { IfOk result (λ n. n ≡ rule.bits_of of.width value) }
+    ensures { MatchResult result (λ n. n ≡ rule.bits_of of.width value)
+        (λ _. HasWidth of → ⊥) }
 {
     if !has_width(of) {
         return Err(AllocError);
     }
-    let unsigned = Scalar {
-        width: of.width,
-        is_signed: false,
-    };
-    match u64::try_from(convert(value, unsigned)) {
-        Ok(n) => Ok(n),
-        Err(_) => Err(AllocError),
-    }
+    Ok(low_bits(of.width, value))
 }

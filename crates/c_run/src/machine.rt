@@ -13,8 +13,8 @@ use crate::running::go;
 use attempt::{Refusal, attempt};
 use c_run_value::setting::{Setting, Stop};
 use c_types::typed::Body;
-use c_types_core::constants::has_width;
-use c_types_core::values::{TooWide, convert};
+use c_types_core::constants::value_in;
+use c_types_core::values::TooWide;
 use c_types_spec::Scalar;
 use memory::Memory;
 use std::alloc::{AllocError, Global};
@@ -114,10 +114,8 @@ fn as_local(types: &[Scalar], local: usize, value: Option<i128>) -> Result<Optio
     let Some(of) = types.get(local) else {
         return Ok(None);
     };
-    if !has_width(*of) {
-        return Err(TooWide);
-    }
-    Ok(Some(convert(number, *of)))
+    let made = attempt!(value_in(*of, number));
+    Ok(Some(made))
 }
 
 /// The value of a function's call is put into its local.

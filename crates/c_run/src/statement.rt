@@ -32,7 +32,7 @@ pub fn value_in<'m, 's, 'a>(
     setting: &Setting<'s, 'a>,
     frame: &'m Frame<'s, 'a>,
     memory: &'m Memory,
-    target: u64,
+    target: u128,
 ) -> Result<i128, Refusal<Stop>>
     ensures { GivesValue result (spec.value (setting_of setting.now) frame.now.locals.items
         memory.now target (core_of core.now)) }
@@ -137,7 +137,7 @@ fn store<'s, 'a>(
     ensures below { IsBelow 1 frame.old frame.new result }
 {
     let pointer = attempt!(value_in(address, setting, frame, memory, 0));
-    let place = attempt!(address_past(pointer, displacement));
+    let place = address_past(pointer, displacement);
     let value = attempt!(value_in(core, setting, frame, memory, place));
     attempt!(store_object(setting, memory, of, place, value, offset));
     Ok(Next::Goes(Ending::Went))

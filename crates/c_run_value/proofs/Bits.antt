@@ -1,14 +1,9 @@
 -- Bits by conversions.
-use Rattle.std.proofs.Common.{◌≡◌, ℕ, ◌<◌, false, refl, ap}
+use Rattle.std.proofs.Common.{◌≡◌, ℕ, ◌<◌, ap}
 use Rattle.std.proofs.Math.Nat.{mod-eq_of_lt}
 use Rattle.std.specs.Prelude.{ℤ, pos, ◌%◌, ◌^◌}
 use Rattle.c_types_spec.specs.declared.Scalar.{Scalar}
-use Rattle.c_types_spec.specs.Values.{bits_of, of_bits, converted}
-
--- the bits are a value converted to an unsigned type
-pub low_bits : (w : ℕ) (v : ℤ) → converted (record { width = w; is_signed = false }) v ≡ pos (bits_of w v)
-unfolding converted
-low_bits w v = refl
+use Rattle.c_types_spec.specs.Values.{of_bits, converted}
 
 small : (N n : ℕ) → n < N → n % N ≡ n
 small N n h = mod-eq_of_lt h

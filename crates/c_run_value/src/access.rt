@@ -1,6 +1,7 @@
 //! Accesses to objects in memory: the guards that they break, and what they read and write.
 
-ghost use Rattle.std.specs.Prelude.{◌≡◌, ◌+◌, ◌*◌, ◌/◌, ◌≤◌, ◌^◌, ◌<◌, IfSome, IfNone, is_some, Ok};
+ghost use Rattle.std.specs.Prelude.{◌≡◌, ◌+◌, ◌*◌, ◌/◌, ◌≤◌, ◌^◌, ◌<◌};
+ghost use Rattle.std.specs.Prelude.{IfNone, MatchOption, is_some, Ok};
 ghost use Rattle.std.specs.Bool.{OnTrue};
 ghost use Rattle.memory_spec.specs.Runs.{fixed_byte};
 ghost use Rattle.memory_spec.specs.Viewed.{runs_of};
@@ -12,17 +13,17 @@ ghost use Rattle.c_run_value.specs.Gives.{Gives, GivesValue, IsKept, IsSize};
 use crate::setting::{Setting, Stop, Zone, is_fixed, is_in_zone};
 use attempt::{Refusal, attempt};
 use c_run_spec::Guard;
-use c_types_core::values::convert;
+use c_types_core::values::{bits_of, convert};
 use c_types_spec::Scalar;
 use memory::Memory;
 use memory_spec::Run;
 
 /// Addresses are below this.
-const ADDRESSES: u64 = 1 << 32;
+const ADDRESSES: u128 = 1 << 32;
 
 /// How many bytes an object of the type has; none where the program doesn't compute with the type.
 fn size_of(of: Scalar) -> Option<u32>
-    ensures { IfSome result (λ size. IsSize of size) }
+    ensures { MatchOption result (8 ≤ of.width → of.width ≤ 64 → ⊥) (λ size. IsSize of size) }
 {
     if 8 <= of.width && of.width <= 64 {
         Some(of.width / 8)
@@ -32,7 +33,7 @@ fn size_of(of: Scalar) -> Option<u32>
 }
 
 /// An object of a size may be at the address.
-fn is_object(size: u32, address: u64) -> bool
+fn is_object(size: u32, address: u128) -> bool
     requires { 0 < size }
     ensures exact { result ≡ spec.is_object size address }
     ensures inside { OnTrue result (address + size ≤ 2 ^ 32) }
@@ -40,7 +41,7 @@ fn is_object(size: u32, address: u64) -> bool
     if address == 0 || address > ADDRESSES {
         return false;
     }
-    address % size as u64 == 0 && address + size as u64 <= ADDRESSES
+    address % size as u128 == 0 && address + size as u128 <= ADDRESSES
 }
 
 /// One of so many bytes from an address on is in the zone.
@@ -76,7 +77,7 @@ fn meets_fixed(size: u32, fixed: &[Run], address: u64) -> bool
 
 /// The first guard that a read breaks.
 #[tactic(auto, unfolding(c_run_spec::specs::Accesses::read_guard, crate::specs::Settings::setting_in))]
-fn read_guard(setting: &Setting<'_, '_>, size: u32, address: u64) -> Option<Guard>
+fn read_guard(setting: &Setting<'_, '_>, size: u32, address: u128) -> Option<Guard>
     requires { 0 < size }
     ensures exact { result ≡ spec.read_guard (setting_of setting.now) size address }
     ensures inside { IfNone result (address + size ≤ 2 ^ 32) }
@@ -84,7 +85,7 @@ fn read_guard(setting: &Setting<'_, '_>, size: u32, address: u64) -> Option<Guar
     if !is_object(size, address) {
         return Some(Guard::Access);
     }
-    if meets_zone(size, setting.barred, address) {
+    if meets_zone(size, setting.barred, address as u64) {
         return Some(Guard::BarredZone);
     }
     None
@@ -92,7 +93,7 @@ fn read_guard(setting: &Setting<'_, '_>, size: u32, address: u64) -> Option<Guar
 
 /// The first guard that a write breaks.
 #[tactic(auto, unfolding(c_run_spec::specs::Accesses::write_guard, crate::specs::Settings::setting_in))]
-fn write_guard(setting: &Setting<'_, '_>, size: u32, address: u64) -> Option<Guard>
+fn write_guard(setting: &Setting<'_, '_>, size: u32, address: u128) -> Option<Guard>
     requires { 0 < size }
     ensures exact { result ≡ spec.write_guard (setting_of setting.now) size address }
     ensures inside { IfNone result (address + size ≤ 2 ^ 32) }
@@ -100,7 +101,7 @@ fn write_guard(setting: &Setting<'_, '_>, size: u32, address: u64) -> Option<Gua
     match read_guard(setting, size, address) {
         Some(guard) => Some(guard),
         None => {
-            if meets_fixed(size, setting.place.fixed, address) {
+            if meets_fixed(size, setting.place.fixed, address as u64) {
                 Some(Guard::FixedByte)
             } else {
                 None
@@ -145,23 +146,6 @@ fn store_bytes(
     }
 }
 
-/// The low bits of a value.
-#[tactic(auto, using(crate::proofs::Bits::low_bits))]
-fn bits_of(of: Scalar, value: i128) -> Result<u64, Refusal<Stop>>
-    requires low { 8 ≤ of.width }
-    requires high { of.width ≤ 64 }
-    ensures { Gives (λ bits. bits) result (Ok (rule.bits_of of.width value)) }
-{
-    let plain = Scalar {
-        width: of.width,
-        is_signed: false,
-    };
-    match u64::try_from(convert(value, plain)) {
-        Ok(bits) => Ok(bits),
-        Err(_) => Err(Refusal::NoMemory),
-    }
-}
-
 /// The value of a type that has these bits.
 #[tactic(auto, using(crate::proofs::Bits::of_low_bits))]
 fn of_bits(of: Scalar, bits: u64) -> i128
@@ -179,7 +163,7 @@ pub fn object_value(
     setting: &Setting<'_, '_>,
     memory: &Memory,
     of: Scalar,
-    address: u64,
+    address: u128,
     offset: usize,
 ) -> Result<i128, Refusal<Stop>>
     ensures { GivesValue result (spec.object_value (setting_of setting.now) memory.now of address
@@ -190,7 +174,7 @@ pub fn object_value(
     };
     match read_guard(setting, size, address) {
         Some(guard) => Err(Refusal::Fault(Stop::Broke(guard, offset))),
-        None => Ok(of_bits(of, bytes_at(size, memory, address))),
+        None => Ok(of_bits(of, bytes_at(size, memory, address as u64))),
     }
 }
 
@@ -200,7 +184,7 @@ pub fn store_object(
     setting: &Setting<'_, '_>,
     memory: &mut Memory,
     of: Scalar,
-    address: u64,
+    address: u128,
     value: i128,
     offset: usize,
 ) -> Result<(), Refusal<Stop>>
@@ -214,11 +198,8 @@ pub fn store_object(
     };
     match write_guard(setting, size, address) {
         Some(guard) => Err(Refusal::Fault(Stop::Broke(guard, offset))),
-        None => match bits_of(of, value) {
-            Ok(bits) => match store_bytes(size, memory, address, bits) {
-                Ok(()) => Ok(()),
-                Err(_) => Err(Refusal::NoMemory),
-            },
+        None => match store_bytes(size, memory, address as u64, bits_of(of.width, value)) {
+            Ok(()) => Ok(()),
             Err(_) => Err(Refusal::NoMemory),
         },
     }

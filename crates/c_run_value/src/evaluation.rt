@@ -1,23 +1,25 @@
 //! The value of an expression.
 
-ghost use Rattle.std.specs.Prelude.{◌≡◌, ◌+◌, pos, slice_get, unwrap_or, Ok};
+ghost use Rattle.std.specs.Prelude.{◌≡◌, ◌+◌, ◌%◌, ◌==◌, ◌≤◌, ◌^◌, ◌*ℤ◌, pos, slice_get, unwrap_or};
+ghost use Rattle.std.specs.Prelude.{MatchResult, Ok};
 ghost use Rattle.c_types_spec.specs.Types.{word};
 ghost use Rattle.c_types_spec.specs.Values as rule;
 ghost use Rattle.c_types_spec.specs.Core as core;
 ghost use Rattle.c_run_spec.specs.Accesses as accesses;
 ghost use Rattle.c_run_spec.specs.Evaluation as spec;
 ghost use Rattle.c_types_core.specs.Expressions.{core_of};
+ghost use Rattle.c_types_core.specs.Widths.{IsWithin};
 ghost use Rattle.c_run_value.specs.Settings.{setting_of};
-ghost use Rattle.c_run_value.specs.Gives.{Gives, GivesValue};
+ghost use Rattle.c_run_value.specs.Gives.{GivesValue};
 ghost use Rattle.c_run_value.specs.Scenes.{Evaluates, chosen_in};
 
 use crate::access::object_value;
 use crate::setting::{Setting, Stop, global_address};
 use attempt::{Refusal, attempt};
 use c_run_spec::Guard;
-use c_types_core::constants::{WORD, has_width};
+use c_types_core::constants::{WORD, operator_value, value_in};
 use c_types_core::expression::Core;
-use c_types_core::values::{arithmetic_value, comparison_value, convert};
+use c_types_core::values::{TooWide, comparison_value, convert};
 use c_types_spec::{Arithmetic, Comparison, Direction, Order, Scalar};
 use memory::Memory;
 
@@ -29,31 +31,23 @@ pub struct Scene<'m> {
     /// The memory.
     pub memory: &'m Memory,
     /// The address of the object that the assignment around the expression stores to, or 0.
-    pub target: u64,
+    pub target: u128,
 }
 
 /// The address that the value of a pointer is.
-pub fn address_of(value: i128) -> Result<u64, Refusal<Stop>>
-    ensures { Gives (λ address. address) result (Ok (accesses.address_of value)) }
+#[tactic(auto, using(crate::proofs::Addresses::addresses))]
+pub fn address_of(value: i128) -> u128
+    ensures address { result ≡ accesses.address_of value }
+    ensures below { result ≤ 2 ^ 127 }
 {
-    if value < 0 {
-        return Ok(0);
-    }
-    match u64::try_from(value) {
-        Ok(address) => Ok(address),
-        Err(_) => Err(Refusal::NoMemory),
-    }
+    if value < 0 { 0 } else { value.unsigned_abs() }
 }
 
 /// The address so many bytes past the value of a pointer.
-pub fn address_past(value: i128, displacement: usize) -> Result<u64, Refusal<Stop>>
-    ensures { Gives (λ address. address) result (Ok (accesses.address_of value + displacement)) }
+pub fn address_past(value: i128, displacement: usize) -> u128
+    ensures { result ≡ accesses.address_of value + displacement }
 {
-    let address = attempt!(address_of(value));
-    match address.checked_add(displacement as u64) {
-        Some(past) => Ok(past),
-        None => Err(Refusal::NoMemory),
-    }
+    address_of(value) + displacement as u128
 }
 
 /// The address of a global, as a value.
@@ -81,10 +75,10 @@ fn local_value(locals: &[Option<i128>], local: usize, offset: usize) -> Result<i
 fn converted(of: Scalar, value: i128) -> Result<i128, Refusal<Stop>>
     ensures { GivesValue result (Ok (rule.converted of value)) }
 {
-    if !has_width(of) {
-        return Err(Refusal::NoMemory);
+    match value_in(of, value) {
+        Ok(made) => Ok(made),
+        Err(_) => Err(Refusal::NoMemory),
     }
-    Ok(convert(value, of))
 }
 
 /// The guard of an operator.
@@ -110,10 +104,7 @@ fn operated(
 ) -> Result<i128, Refusal<Stop>>
     ensures { GivesValue result (spec.operated operator of left right offset) }
 {
-    if !has_width(of) {
-        return Err(Refusal::NoMemory);
-    }
-    match arithmetic_value(operator, of, left, right) {
+    match operator_value(operator, of, left, right) {
         Ok(Some(value)) => Ok(value),
         Ok(None) => Err(Refusal::Fault(Stop::Broke(guard_of(operator), offset))),
         Err(_) => Err(Refusal::NoMemory),
@@ -128,8 +119,9 @@ fn compared(operator: Comparison, left: i128, right: i128) -> Result<i128, Refus
 }
 
 /// A pointer and a distance added, or subtracted.
-fn sum_of(direction: Direction, pointer: i128, distance: i128) -> Result<i128, Refusal<Stop>>
-    ensures { Gives (λ sum. sum) result (Ok (spec.sum_of direction pointer distance)) }
+fn sum_of(direction: Direction, pointer: i128, distance: i128) -> Result<i128, TooWide>
+    ensures { IsWithin (spec.sum_of direction pointer distance)
+        (spec.sum_of direction pointer distance) result }
 {
     let sum = match direction {
         Direction::Up => pointer.checked_add(distance),
@@ -137,7 +129,17 @@ fn sum_of(direction: Direction, pointer: i128, distance: i128) -> Result<i128, R
     };
     match sum {
         Some(sum) => Ok(sum),
-        None => Err(Refusal::NoMemory),
+        None => Err(TooWide),
+    }
+}
+
+/// How far so many objects of a size reach.
+fn distance_of(index: i128, size: usize) -> Result<i128, TooWide>
+    ensures { IsWithin (index *ℤ pos size) (index *ℤ pos size) result }
+{
+    match index.checked_mul(size as i128) {
+        Some(distance) => Ok(distance),
+        None => Err(TooWide),
     }
 }
 
@@ -159,10 +161,8 @@ fn moved(
 ) -> Result<i128, Refusal<Stop>>
     ensures { GivesValue result (spec.moved direction size pointer index offset) }
 {
-    let Some(distance) = index.checked_mul(size as i128) else {
-        return Err(Refusal::NoMemory);
-    };
-    let sum = attempt!(sum_of(direction, pointer, distance));
+    let distance = attempt!(distance_of(index, size), Refusal::NoMemory);
+    let sum = attempt!(sum_of(direction, pointer, distance), Refusal::NoMemory);
     if is_pointer(sum) {
         Ok(sum)
     } else {
@@ -182,16 +182,25 @@ fn within(bound: usize, index: i128, offset: usize) -> Result<i128, Refusal<Stop
     }
 }
 
+/// An address is a multiple of an alignment, which is not 0.
+fn is_multiple(address: u128, alignment: usize) -> Result<bool, TooWide>
+    ensures { MatchResult result (λ is_multiple. is_multiple ≡ (address % alignment == 0))
+        (λ _. alignment ≡ 0) }
+{
+    if alignment == 0 {
+        return Err(TooWide);
+    }
+    Ok(address % alignment as u128 == 0)
+}
+
 /// A pointer at a multiple of an alignment.
 #[tactic(auto, unfolding(c_run_spec::specs::Evaluation::aligned))]
 fn aligned(alignment: usize, pointer: i128, offset: usize) -> Result<i128, Refusal<Stop>>
     ensures { GivesValue result (spec.aligned alignment pointer offset) }
 {
-    let address = attempt!(address_of(pointer));
-    if alignment == 0 {
-        return Err(Refusal::NoMemory);
-    }
-    if address != 0 && address % alignment as u64 == 0 {
+    let address = address_of(pointer);
+    let is_multiple = attempt!(is_multiple(address, alignment), Refusal::NoMemory);
+    if address != 0 && is_multiple {
         Ok(pointer)
     } else {
         Err(Refusal::Fault(Stop::Broke(Guard::Access, offset)))
@@ -215,7 +224,7 @@ fn load(
         displacement offset) }
 {
     let base = attempt!(value(address, setting, scene));
-    let place = attempt!(address_past(base, displacement));
+    let place = address_past(base, displacement);
     object_value(setting, scene.memory, of, place, offset)
 }
 

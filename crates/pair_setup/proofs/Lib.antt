@@ -20,3 +20,4 @@ mod Outcomes
 mod Sound
 pub mod Seams
 mod Coded
+mod Unfaulted

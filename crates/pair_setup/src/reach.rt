@@ -7,6 +7,7 @@ ghost use Rattle.std.specs.Prelude.{slice_get};
 ghost use Rattle.indexmap.specs.IndexMap.{get};
 ghost use Rattle.elf_read_spec.specs.Image.{size_at};
 ghost use Rattle.code_reach_spec.specs.Code as code;
+ghost use Rattle.code_reach_spec.specs.Faults.{ReachesNoFault};
 ghost use Rattle.code_reach.specs.Found.{IsDepth};
 ghost use Rattle.c_types_spec.specs.HasType.{IsTypedUnit};
 ghost use Rattle.c_types.specs.Typed.{typed_of};
@@ -85,14 +86,16 @@ fn reaches_cycle(
 
 /// The stack of the function at an entry whose code has no fault; none where a cycle is reached.
 fn reached_stack(alloc: Global, image: &Image<'_>, entry: u32) -> Result<Option<u64>, AllocError>
-    requires { IsSome (size_at image.now entry) }
+    requires sized { IsSome (size_at image.now entry) }
+    requires sound { ReachesNoFault image.now entry }
     ensures found { IfOk result (IsDepth image.now entry) }
     ensures acyclic { IfOk result (λ depth. IfSome depth (λ _. code.IsCyclic image.now entry
         → ⊥)) }
 {
     match stack(alloc, image, entry) {
         Ok(stack) => Ok(stack),
-        Err(_) => Err(AllocError),
+        Err(Refusal::Fault(_)) => unreachable!(),
+        Err(Refusal::NoMemory) => Err(AllocError),
     }
 }
 
@@ -104,6 +107,7 @@ fn stack_of(
     entry: u32,
 ) -> Result<Option<u64>, AllocError>
     requires sized { IsSome (size_at image.now entry) }
+    requires sound { ReachesNoFault image.now entry }
     requires stacks { AreStacks image.now (get nat_eq known.now) }
     ensures found { IfOk result (IsDepth image.now entry) }
     ensures acyclic { IfOk result (λ depth. IfSome depth (λ _. code.IsCyclic image.now entry
@@ -130,6 +134,7 @@ fn depth_of(
     requires survey { IsSurvey image.now (typed_of unit.now) (names_of unit.now) survey.now }
     requires stacks { AreStacks image.now (get nat_eq known.now) }
     requires sized { IsSome (size_at image.now entry) }
+    requires sound { ReachesNoFault image.now entry }
     ensures { IfOk result (λ depth. (name : List ℕ) → IsDeclaredAt (typed_of unit.now) (names_of
         unit.now) name start → IsDepthOf image.now (typed_of unit.now) name entry depth) }
 {
