@@ -32,7 +32,7 @@ use Rattle.cert_check_spec.specs.Verdict as spec
 use Rattle.cert_check_spec.specs.Verdict.{Inside, Passes, Fails, NotProof, Limit, IsTest, with_test}
 use Rattle.cert_check_terms.specs.Outcomes.{IsOfLine, IsRead}
 use Rattle.cert_check_terms.specs.Variables.{AreApart}
-use Rattle.cert_check_leaf.specs.Goals.{AnswersGoals}
+use Rattle.cert_check_frames.specs.Goals.{AnswersGoals}
 use Rattle.cert_check_frames.specs.declared.jobs.Branch.{Branch}
 use Rattle.cert_check_frames.specs.declared.jobs.Job.{Job}
 use Rattle.cert_check_frames.specs.declared.jobs.Job.TheVariants.{Prove}

@@ -8,8 +8,7 @@ ghost use Rattle.cert_check.specs.Steps.{IsKept, IsStep, IsTested, goal_fault_of
 
 use crate::fault::PartFault;
 use attempt::{Refusal, attempt};
-use cert_check_frames::{Job, Listed, push_branches, push_goals, take_proof};
-use cert_check_leaf::leaf_goals;
+use cert_check_frames::{Job, Listed, leaf_goals, push_branches, push_goals, take_proof};
 use cert_check_spec::RuleWord;
 use cert_check_terms::{TermFault, read_line};
 use cert_text_spec::Symbol;

@@ -1,7 +1,7 @@
 pub mod Indexed
 pub mod FrameFacts
 pub mod Made
-mod Grown
 mod Locals
 mod Opened
 mod Framed
+pub mod AtEntry

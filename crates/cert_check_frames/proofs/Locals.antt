@@ -9,7 +9,7 @@ use Rattle.c_types_spec.specs.declared.Scalar.{Scalar}
 use Rattle.c_graph_spec.specs.State.{is_set}
 use Rattle.agreement_laws.specs.EntryFrame.{Fact, argument_facts, local_facts}
 use Rattle.cert_check_frames.specs.Facts.{facts_of_local}
-use Rattle.cert_check_frames.proofs.Grown.{grown}
+use Rattle.cert_check_relations.proofs.Grown.{grown}
 
 -- ---- arguments
 

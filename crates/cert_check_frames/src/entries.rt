@@ -7,11 +7,10 @@ ghost use Rattle.validity_laws.specs.Derivation.{Function};
 ghost use Rattle.cert_check_frames.specs.Entries.{IsConventionFor, IsEntryOf, IsOf};
 
 use crate::facts::Facts;
-use crate::relations::Relations;
 use crate::scope::setting_for;
-use crate::terms::{STACK_POINTER, at_entry, zone_from};
 use attempt::attempt;
 use c_types::typed::Body;
+use cert_check_relations::{Relations, STACK_POINTER, at_entry, zone_from};
 use memory_spec::Run;
 use proof_tree::Setting;
 use sim_rules_terms::Convention;

@@ -12,10 +12,10 @@ ghost use Rattle.cert_check_frames.specs.Facts.{binary_facts_of, source_facts_of
 ghost use Rattle.cert_check_frames.specs.Facts.{memory_over_zone};
 
 use crate::Fact;
-use crate::terms::{STACK_POINTER, at_entry, variable, widened, zone_from};
 use attempt::attempt;
 use c_graph_terms::{ZONE_HIGH, ZONE_LOW, is_set, local, width_of};
 use c_types_spec::Scalar;
+use cert_check_relations::{STACK_POINTER, at_entry, variable, widened, zone_from};
 use sim_rules_terms::{open, overlaid};
 use std::alloc::{AllocError, Global};
 use term_core::Term;

@@ -3,3 +3,4 @@ pub mod Showing
 pub mod Stepping
 pub mod Accepting
 pub mod Going
+pub mod Refused

@@ -4,3 +4,4 @@
 #![tactic(auto)]
 
 pub mod passing;
+pub mod samples;

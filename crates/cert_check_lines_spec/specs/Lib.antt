@@ -4,3 +4,5 @@ pub mod LineRules
 pub mod Shown
 pub mod Parts
 pub mod Walk
+pub mod Known
+pub mod Samples

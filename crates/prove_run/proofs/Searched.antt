@@ -32,7 +32,7 @@ use Rattle.prove_run.specs.declared.trail.Found.{Found}
 use Rattle.prove_run.specs.declared.trail.Found.TheVariants.{Proved, Unproved}
 use Rattle.prove_run.specs.declared.trail.Trail.{Trail}
 use Rattle.prove_run.specs.Found.{found_of, logs_of, trail_of}
-use Rattle.cert_check_leaf.specs.Goals.{HasGoals}
+use Rattle.cert_check_frames.specs.Goals.{HasGoals}
 use Rattle.prove_run.specs.Logs.{AreTruths, IsLeanLog, IsGoalTrail, HasLog, HaveAll, HasTrail, IsSearched}
 
 -- ---- one log more

@@ -3,11 +3,10 @@
 ghost use Rattle.std.specs.Prelude.{◌<◌, All, IfErr, IfOk, length};
 ghost use Rattle.cert_check_spec.specs.Verdict as spec;
 ghost use Rattle.cert_check_frames.specs.Listed.{IsListed};
-ghost use Rattle.cert_check_leaf.specs.Goals.{AnswersGoals, IsLeafFault};
+ghost use Rattle.cert_check_frames.specs.Goals.{AnswersGoals, IsLeafFault};
 
 use attempt::{Refusal, attempt};
-use cert_check_frames::{Listed, known};
-use cert_check_leaf::leaf_goals;
+use cert_check_frames::{Listed, known, leaf_goals};
 use sim_rules::RuleFault;
 use sim_rules_terms::Opening;
 use std::alloc::Global;

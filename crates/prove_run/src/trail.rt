@@ -6,7 +6,7 @@ ghost use Rattle.cert_check_spec.specs.Verdict as spec;
 ghost use Rattle.attempt.specs.declared.refusal.Refusal.TheVariants.{Fault};
 ghost use Rattle.prove_run_spec.specs.Trails.{IsFound, IsTrail};
 ghost use Rattle.sim_rules.specs.Outcome.{IsRuleFault};
-ghost use Rattle.cert_check_leaf.specs.Goals.{IsLeafFault};
+ghost use Rattle.cert_check_frames.specs.Goals.{IsLeafFault};
 ghost use Rattle.prove_run.specs.Found.{found_of, trail_of};
 
 use attempt::Refusal;

@@ -3,7 +3,7 @@ use Rattle.std.proofs.lemmas.List.{at_drop_all}
 use Rattle.c_types_spec.specs.declared.Scalar.{Scalar}
 use Rattle.agreement_laws.specs.EntryFrame.{local_facts}
 use Rattle.cert_check_frames.specs.Facts.{facts_of}
-use Rattle.cert_check_frames.proofs.Grown.{complete}
+use Rattle.cert_check_relations.proofs.Grown.{complete}
 use Rattle.cert_check_frames.proofs.Locals.{one_local}
 use Rattle.cert_check_frames.proofs.facts.add_locals.Goals as goal
 

@@ -6,7 +6,7 @@ use Rattle.term_core.specs.Trees.{term_of}
 use Rattle.c_graph_spec.specs.State.{is_set, local}
 use Rattle.agreement_laws.specs.EntryFrame.{parameter}
 use Rattle.cert_check_frames.specs.Facts.{facts_of}
-use Rattle.cert_check_frames.proofs.Grown.{one_then}
+use Rattle.cert_check_relations.proofs.Grown.{one_then}
 use Rattle.cert_check_frames.proofs.facts.add_parameter.Goals as goal
 
 pub returns-2 : goal.returns-2

@@ -3,7 +3,7 @@ use Rattle.decompile_spec.specs.State.{register}
 use Rattle.sim_rules_spec.specs.Calling.{at_entry}
 use Rattle.agreement_laws.specs.EntryFrame.{Fact}
 use Rattle.cert_check_frames.specs.Facts.{facts_of, entry_facts}
-use Rattle.cert_check_frames.proofs.Grown.{one_mapped, all_mapped}
+use Rattle.cert_check_relations.proofs.Grown.{one_mapped, all_mapped}
 use Rattle.cert_check_frames.proofs.facts.add_registers.Goals as goal
 
 abbrev kept : ℕ → Fact

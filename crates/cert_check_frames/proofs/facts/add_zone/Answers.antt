@@ -3,7 +3,7 @@ use Rattle.std.proofs.lemmas.Result.{on_ok_weaker}
 use Rattle.c_graph_spec.specs.State.{zone_low, zone_high}
 use Rattle.sim_rules_spec.specs.Calling.{at_entry, zone_from}
 use Rattle.cert_check_frames.specs.Facts.{facts_of}
-use Rattle.cert_check_frames.proofs.Grown.{one_then}
+use Rattle.cert_check_relations.proofs.Grown.{one_then}
 use Rattle.cert_check_frames.proofs.facts.add_zone.Goals as goal
 
 pub returns-2 : goal.returns-2

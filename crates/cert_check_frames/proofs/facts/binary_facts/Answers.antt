@@ -2,7 +2,7 @@ use Rattle.std.proofs.Common.{◌∙◌, List, [], ◌∷◌, ◌++◌, ap}
 use Rattle.agreement_laws.specs.EntryFrame.{argument_facts, registers}
 use Rattle.cert_check_frames.specs.declared.listed.Fact.{Fact as CodeFact}
 use Rattle.cert_check_frames.specs.Facts.{facts_of, entry_facts, memory_fact}
-use Rattle.cert_check_frames.proofs.Grown.{one_then}
+use Rattle.cert_check_relations.proofs.Grown.{one_then}
 use Rattle.cert_check_frames.proofs.facts.binary_facts.Goals as goal
 
 pub returns-4 : goal.returns-4

@@ -1,7 +1,7 @@
 use Rattle.std.proofs.Common.{◌∙◌, [], ◌∷◌, ◌++◌, map, ap}
 use Rattle.term_core_spec.specs.declared.Sort.{Sort}
 use Rattle.c_graph_spec.specs.State.{sort_of_scalar}
-use Rattle.cert_check_frames.proofs.Grown.{one_mapped, all_mapped}
+use Rattle.cert_check_relations.proofs.Grown.{one_mapped, all_mapped}
 use Rattle.cert_check_frames.proofs.scope.add_sorts.Goals as goal
 
 pub loop-index-preserved : goal.loop-index-preserved

@@ -3,8 +3,8 @@ use Rattle.std.proofs.lemmas.List.Elements.{All-nil}
 use Rattle.proof_tree_spec.specs.Frames.{Frame}
 use Rattle.cert_check_frames.specs.declared.jobs.Branch.{Branch}
 use Rattle.cert_check_frames.specs.Jobs.{AreBelow, frame_with, premises_at}
-use Rattle.cert_check_leaf.specs.Goals.{AnswersGoals}
-use Rattle.cert_check_leaf.proofs.Opened.{opened_both, with_none}
+use Rattle.cert_check_frames.specs.Goals.{AnswersGoals}
+use Rattle.cert_check_frames.proofs.AtEntry.{opened_both, with_none}
 use Rattle.prove_run.proofs.goals.leaf_obligations.Goals as goal
 
 pub leaf_goals-requires-clause-opened : goal.leaf_goals-requires-clause-opened

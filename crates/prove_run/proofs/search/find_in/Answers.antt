@@ -1,5 +1,5 @@
 use Rattle.std.proofs.Common.{ℕ, List, sym, subst}
-use Rattle.cert_check_leaf.specs.Goals.{HasGoals}
+use Rattle.cert_check_frames.specs.Goals.{HasGoals}
 use Rattle.prove_run.proofs.Searched.{found_there}
 use Rattle.prove_run.proofs.search.find_in.Goals as goal
 
