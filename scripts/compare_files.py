@@ -1,12 +1,13 @@
 #!/usr/bin/env python3
 """Compares what is read of real executables with what GNU readelf and objdump show.
 
-    scripts/compare_files.py
+    scripts/compare_files.py [--survey]
 
-It compiles one source with gcc and, where they are there, clang and lld, at four levels each. The segments and
-symbols are to be readelf's; the code lists, the reached functions, the stacks and the first faults are to be what
-follows from the flow of control in objdump's text. It prints for each executable how many answers agreed. It is run
-outside the gate and needs `rt`, riscv64-unknown-elf-gcc and its binutils on the path.
+It compiles one source with gcc and, where they are there, clang and lld, at four levels each, and the switches and trees
+of calls of `compiled_rows.py`. The segments and symbols are to be readelf's; the code lists, the reached functions, the
+stacks and the first faults are to be what follows by the definitions (`reach.py`) from objdump's text. It prints for
+each executable how many answers agreed, and how many functions are read since tables are. It is run outside the gate
+and needs `rt`, riscv64-unknown-elf-gcc and its binutils on the path.
 """
 
 import re
@@ -16,7 +17,9 @@ import sys
 import tempfile
 from pathlib import Path
 
+import compiled_rows
 from probe import ask
+from reach import ARITHMETIC, BRANCHES, IMMEDIATES, LOADS, SHIFTS, STORES, Code, first, stack
 
 CRATES = ["attempt", "elf_read", "code_reach"]
 
@@ -162,113 +165,60 @@ def image(file):
     return segments, symbols
 
 
-BRANCHES = {"beq", "bne", "blt", "bge", "bltu", "bgeu"}
+def shown(file, *options):
+    return subprocess.run(["riscv64-unknown-elf-objdump", *options, str(file)], capture_output=True, text=True, check=True).stdout.splitlines()
 
 
-class Shown:
+def instruction(address, name, words):
+    """The instruction of a line of objdump's text, as `reach.decode` has it; None where it is no word of RV32IM."""
+    operands = re.findall(r"-?(?:0x)?[0-9a-f]+(?![0-9a-fx])", words.replace("(", ",").replace("x", "").replace(" ", "")) if name in ("jal", *BRANCHES.values()) else []
+    if operands:
+        *registers, target = operands
+        return (name, *map(int, registers), int(target, 16) - address)
+    operands = [int(word.removeprefix("x") if re.fullmatch(r"x\d+", word) else word, 0) for word in re.findall(r"x\d+|-?0x[0-9a-f]+|-?\d+", words)]
+    if name in ("lui", "auipc"):
+        return name, operands[0], operands[1] << 12
+    if name == "jalr" or name in LOADS.values() or name in STORES.values():
+        return name, operands[0], operands[2], operands[1]
+    if name in IMMEDIATES.values() or name in SHIFTS.values() or name in ARITHMETIC.values():
+        return (name, *operands)
+    return (name,) if name in ("fence", "ecall", "ebreak") else None
+
+
+class Shown(Code):
     """The functions of an executable, as objdump shows them."""
 
-    def __init__(self, file):
-        shown = subprocess.run(["riscv64-unknown-elf-objdump", "-d", "-M", "no-aliases,numeric", str(file)], capture_output=True, text=True, check=True).stdout
-        table = subprocess.run(["riscv64-unknown-elf-objdump", "-t", str(file)], capture_output=True, text=True, check=True).stdout
-        self.at, self.sizes = {}, {}
-        for line in shown.splitlines():
+    def __init__(self, file, with_tables=True):
+        fixed, sizes, self.at = {}, {}, {}
+        for line in shown(file, "-d", "-M", "no-aliases,numeric"):
             found = re.match(r"\s*([0-9a-f]+):\s+([0-9a-f]{8})\s+(\S+)\s*(.*)$", line)
             if found:
-                self.at[int(found[1], 16)] = int(found[2], 16), found[3], re.split(r"\s+[<#]", found[4])[0]
-        for line in table.splitlines():
+                self.at[int(found[1], 16)] = instruction(int(found[1], 16), found[3], re.split(r"\s+[<#]", found[4])[0])
+        for line in shown(file, "-t"):
             found = re.match(r"([0-9a-f]{8}) .{6}F \S+\s+([0-9a-f]{8}) ", line)
             if found:
-                self.sizes[int(found[1], 16)] = int(found[2], 16)
+                sizes[int(found[1], 16)] = max(int(found[2], 16), sizes.get(int(found[1], 16), 0))
+        kept = [(vaddr, vaddr + filesz) for vaddr, _, flags, filesz in image(file)[0] if not flags & 2]
+        for line in shown(file, "-s"):
+            found = re.match(r" ([0-9a-f]{4,8}) ((?:[0-9a-f]{2,8} ){1,4})", line)
+            here = int(found[1], 16) if found else 0
+            if any(low <= here < high for low, high in kept):
+                fixed.update(enumerate(bytes.fromhex(found[2]), here))
+        super().__init__(fixed, sizes, with_tables)
 
-    def flow(self, entry, address):
-        """What comes after an instruction: its kind, and its target where it has one."""
-        _, name, words = self.at[address]
-        words = words.split(",")
-        if name in BRANCHES:
-            return "branch", int(words[2], 16)
-        if name == "jal":
-            return {"x0": "jump", "x1": "call"}.get(words[0], "unknown"), int(words[1], 16)
-        if name in ("ecall", "ebreak"):
-            return "stop", None
-        if name != "jalr":
-            return "fall", None
-        if words == ["x0", "0(x1)"]:
-            return "return", None
-        offset, base = re.match(r"(-?\d+)\((\w+)\)", words[1]).groups()
-        before = self.at.get(address - 4) if address >= entry + 4 else None
-        if before and before[1] == "auipc" and words[0] in ("x0", "x1"):
-            register, upper = before[2].split(",")
-            if register == base != "x0":
-                target = address - 4 + (int(upper, 16) << 12) + int(offset)
-                return "jump" if words[0] == "x0" else "call", target % 2**32 & ~1
-        return "unknown", None
-
-    def function(self, entry):
-        """Its words, the functions it calls, by how much it lowers x2, and its faults."""
-        end, todo, seen, targets = entry + self.sizes[entry], [entry], set(), set()
-        while todo:
-            address = todo.pop()
-            if address in seen:
-                continue
-            seen.add(address)
-            kind, target = self.flow(entry, address)
-            nexts = [address + 4] if kind in ("fall", "branch", "call") else []
-            if kind in ("branch", "jump"):
-                nexts.append(target)
-                targets.add(target)
-            todo += [target for target in nexts if entry <= target < end]
-        calls, depth, faults = set(), 0, []
-        for address in sorted(seen):
-            _, name, words = self.at[address]
-            kind, target = self.flow(entry, address)
-            leaves = kind == "jump" and not entry <= target < end
-            if (kind == "call" or leaves) and target in self.sizes:
-                calls.add(target)
-            elif kind == "call":
-                faults.append((address, 1, "NoFunction"))
-            if kind == "unknown" or name == "jalr" and address in targets and kind != "return":
-                faults.append((address, 7, "Indirect"))
-            goes = {"fall": [address + 4], "branch": [address + 4, target], "jump": [target]}.get(kind, [])
-            if any(not entry <= other < end for other in goes) and not (leaves and target in self.sizes):
-                faults.append((address, 8, "Leaves"))
-            if name == "addi" and words.split(",")[:2] == ["x2", "x2"]:
-                depth += max(0, -int(words.split(",")[2]))
-        return sorted((address, self.at[address][0]) for address in seen), calls, depth, faults
+    def instruction(self, address):
+        return self.at.get(address)
 
     def answers(self, entry):
         """What the probe is to answer for the function."""
-        words, _, _, faults = self.function(entry)
+        fault = lambda faults: "{} at {}".format(*first(faults))
+        own, (found, faults) = self.function(entry), self.reach(entry)
         wanted = {"word": [], "entry": []}
+        wanted.update({"code": fault(own.faults)} if own.faults else {"word": [(address, self.word(address)) for address in own.addresses]})
         if faults:
-            wanted["code"] = "{2} at {0}".format(*min(faults))
-        else:
-            wanted["word"] = words
-        reached, todo, every = {}, [entry], []
-        while todo:
-            one = todo.pop()
-            if one not in reached:
-                reached[one] = self.function(one)
-                todo += reached[one][1]
-                every += reached[one][3]
-        for one in reached:
-            if any(other < one < other + self.sizes[other] for other in reached):
-                every.append((one, 9, "Overlap"))
-        if every:
-            wanted["reach"] = wanted["stack"] = "{2} at {0}".format(*min(every))
-            return wanted
-        wanted["entry"] = sorted(reached)
-
-        def depth(one, above):
-            """The greatest sum on a way of calls; None where it comes back to itself."""
-            if one in above:
-                return None
-            below = [depth(other, above | {one}) for other in reached[one][1]]
-            return None if None in below else reached[one][2] + max(below, default=0)
-
-        found = depth(entry, frozenset())
-        wanted.update({"cycle": ""} if found is None else {"depth": str(found)})
-        return wanted
+            return {**wanted, "reach": fault(faults), "stack": fault(faults)}
+        depth = stack(found, entry)
+        return {**wanted, "entry": sorted(found), **({"cycle": ""} if depth is None else {"depth": str(depth)})}
 
 
 def executables(folder):
@@ -289,21 +239,38 @@ def executables(folder):
                     text.write_text(re.sub(r"(?m)^\s+call\s+(\w+)(@plt)?$", r"\tjal \1", text.read_text()))
                 subprocess.run([*words, *FLAGS, "-o", file, text], check=True, stderr=subprocess.DEVNULL)
                 yield file
+    for name, data in compiled_rows.executables():
+        file = folder / f"{name}.elf"
+        file.write_bytes(data)
+        yield file
+
+
+def survey(file):
+    """How many functions are read by tables: they, or what they reach, were at fault without."""
+    code, without = Shown(file), Shown(file, with_tables=False)
+    own = [entry for entry in code.sizes if without.function(entry).faults and not code.function(entry).faults]
+    reaching = [entry for entry in code.sizes if without.reach(entry)[1] and not code.reach(entry)[1]]
+    left = [first(code.function(entry).faults)[0] for entry in code.sizes if code.function(entry).faults]
+    return len(code.sizes), len(own), len(reaching), {kind: left.count(kind) for kind in sorted(set(left))}
 
 
 def main():
     wrong = 0
     with tempfile.TemporaryDirectory() as folder:
         files = list(executables(Path(folder)))
+        for file in files:
+            print("{}: {} functions, {} read by tables, {} with what they reach; still at fault: {}".format(file.name, *survey(file)), flush=True)
+        if "--survey" in sys.argv:
+            return
         answers = probe(files)
         for file in files:
-            shown, agreed, lists, kinds = Shown(file), 0, 0, {}
+            code, agreed, lists, kinds = Shown(file), 0, 0, {}
             functions, segments, symbols = answers[file.name]
-            if (segments, symbols) != image(file) or sorted(shown.sizes) != sorted(functions):
+            if (segments, symbols) != image(file) or sorted(code.sizes) != sorted(functions):
                 wrong += 1
                 print(f"WRONG {file.name}: other segments, symbols or functions")
             for entry, got in sorted(functions.items()):
-                wanted = shown.answers(entry)
+                wanted = code.answers(entry)
                 lists += "code" not in wanted
                 for kind in ("code", "reach", "cycle"):
                     if kind in wanted:

@@ -1,23 +1,30 @@
 #!/usr/bin/env python3
-"""Runs the graphs of compiled functions beside the machine, on random states.
+"""Runs the graphs of functions beside the machine, on random states.
 
-    scripts/compare_graphs.py              (Debian: gcc-riscv64-unknown-elf, binutils-riscv64-unknown-elf)
+    scripts/compare_graphs.py [--definitions]     (Debian: gcc-riscv64-unknown-elf, binutils-riscv64-unknown-elf)
 
-It is run outside the gate and needs `rt` on the path. It compiles some C, has the crates print the graph of each
-function that is reached and run the machine from random registers and memory to the return address, and runs the
-graphs here, by an evaluation of terms that is not the crates' own. Where a graph returns the machine has to have
-returned with the same registers and memory; where it fails nothing is compared but that this is so.
+It is run outside the gate and needs `rt` on the path. It compiles some C and makes random executables of branches, pairs,
+tail calls and jumps by tables. The crates print the graph of each function, or its fault; these are to be those of the
+definitions, by `graphs.py`. The graphs run here, by an evaluation of terms that is not the crates' own, in lockstep with
+the interpreter of `machine.py`: at each instruction that a graph comes to, the interpreter has to stand at its address
+with the same registers; where the graph returns it has to have returned, with the same memory; where the graph fails
+the interpreter has to trap, to return elsewhere or to leave the function. The crates run their machine from the same
+states, which has to end as the graph does. With --definitions nothing is asked of the crates: the graphs are those of
+the definitions.
 """
 
 import random
-import struct
 import subprocess
 import sys
 import tempfile
 from pathlib import Path
 
+import random_code
+from graphs import HOME as HOME_TEST
+from graphs import Graphs, Run
+from machine import Image, Trap, step
 from probe import ask
-from terms import operate
+from reach import Code, first
 
 CRATES = ["attempt", "rv_instr", "rv_machine", "elf_read", "code_reach", "term_core_spec", "term_bank", "graph_core_spec", "graph_core", "decompile", "indexmap"]
 
@@ -30,6 +37,7 @@ PROBE = r"""//! Prints graphs, and runs the machine.
 mod numbers;
 
 use attempt::Refusal;
+use decompile::GraphFault;
 use elf_read::{Image, read};
 use graph_core::{SharedBinding, SharedNode};
 use graph_core_spec::Next;
@@ -160,14 +168,19 @@ fn show(rt: &HostRuntime, image: &Image<'_>, entries: &[u32]) -> anyhow::Result<
             Ok(found) => {
                 let first = found.graph.entry();
                 println!(rt; "function {first}")?;
+                for (address, node) in &found.firsts {
+                    println!(rt; "first {address:x} {node}")?;
+                }
                 for node in found.graph.nodes() {
                     let mut out = String::new(rt.alloc());
                     put_node(rt.alloc(), &mut out, found.graph.bank(), node)?;
                     println!(rt; "{out}")?;
                 }
             }
-            Err(Refusal::Fault(fault)) => println!(rt; "refused {fault:?}")?,
-            Err(Refusal::NoMemory) => println!(rt; "refused: no memory")?,
+            Err(Refusal::Fault(GraphFault::Code(fault))) => {
+                println!(rt; "refused {:?} {:x}", fault.kind, fault.address)?;
+            }
+            Err(_) => println!(rt; "refused")?,
         }
     }
     Ok(())
@@ -240,37 +253,38 @@ F u tail(u a, u b) { return straight(b, a + 1); }
 F u either(u a, u b, const u *p) { if (a & 1) return sum(p, b); return caller(a, b, p); }
 F u last(u a, u b, const u *p) { a += straight(a, b); return either(a, b, p + (b & 1)); }
 F u recursion(u n) { return (n & 7) ? recursion((n & 7) - 1) + n : 1; }
+F u chosen(u a, u b) { switch (a & 7) { case 0: return a + b; case 1: return a * b; case 2: return a ^ 77; case 3: return straight(b, a); case 4: return a - b; case 5: return b << 3; default: return 9; } }
+F int letters(const u8 *p, int n) { int s = 0; for (int i = 0; i < (n & 15); i++) switch (p[i] & 15) { case 1: s += 7; break; case 2: s ^= 99; break; case 3: s *= 3; break; case 4: s -= p[i + 1]; break; case 6: s = -s; break; case 7: return s; default: s++; } return s; }
 F void swap(u *p, u *q) { u t = *p; *p = *q; *q = t; }
 F void sort(u *p) { for (u i = 0; i < 5; i++) for (u j = 0; j + 1 < 6; j++) if (p[j] > p[j + 1]) swap(p + j, p + j + 1); }
 void _start(void) { for (;;); }
 """
 
-FLAGS = "-march=rv32im -mabi=ilp32 -ffreestanding -nostdlib -static -fno-jump-tables -msmall-data-limit=0".split()
+FLAGS = "-march=rv32im -mabi=ilp32 -ffreestanding -nostdlib -static -msmall-data-limit=0".split()
 LEVELS = ("-O0", "-O1", "-O2", "-Os")
-# whether calls are by one JAL each or by pairs of instructions, and whether last calls become jumps
+# whether calls are by one JAL each or by pairs of instructions, whether last calls become jumps, and switches tables
 KINDS = {
-    "jumps": ["-fno-optimize-sibling-calls"],
+    "jumps": ["-fno-optimize-sibling-calls", "-fno-jump-tables"],
     "pairs": ["-fno-optimize-sibling-calls", "-Wl,--no-relax"],
     "tails": ["-foptimize-sibling-calls"],
-    "pairs-tails": ["-foptimize-sibling-calls", "-Wl,--no-relax"],
+    "pairs-tails": ["-foptimize-sibling-calls", "-fno-jump-tables", "-Wl,--no-relax"],
 }
 DATA, WORDS, HOME, STEPS = 0x40000, 128, 0x7FFF0000, 4000
-
-OPERATORS = dict(
-    Not="not", Complement="bnot", And="and", Or="or", Equal="eq", Less="ult", Join="join", Choose="ite", WordAdd="add", WordSubtract="sub",
-    WordMultiply="mul", WordAnd="band", WordOr="bor", WordXor="bxor", WordShiftLeft="shl", WordShiftRight="shr", WordShiftRightSigned="sar",
-    WordDivide="udiv", WordRemainder="urem",
-)
-
+FILES, FUNCTIONS = 40, 10  # random executables, and functions of each
 
 def compiled(room, level, kind):
-    """An executable, and the entries of its functions by name."""
+    """An executable."""
     file = room / f"file{level}-{kind}"
     (room / "source.c").write_text(SOURCE)
     subprocess.run(["riscv64-unknown-elf-gcc", *FLAGS, level, *KINDS[kind], "-Wl,-Ttext=0x10000", "source.c", "-o", file.name], cwd=room, check=True)
-    symbols = subprocess.run(["riscv64-unknown-elf-nm", file.name], cwd=room, check=True, capture_output=True, text=True).stdout
-    rows = [line.split() for line in symbols.splitlines()]
-    return file, {name: int(value, 16) for value, kind, name in sorted(rows) if kind in "tT" and name != "_start"}
+    return file
+
+
+def random_files(room, pick):
+    for number in range(FILES):
+        file = room / f"random-{number}"
+        file.write_bytes(random_code.executable(pick, FUNCTIONS))
+        yield file
 
 
 # ---- graphs, as the probe prints them
@@ -312,77 +326,100 @@ class Reader:
 
 
 def graphs_of(lines):
-    """The first node and the nodes of each graph, or why there is none."""
+    """The first node, the nodes and the first node of each instruction of each graph, or the fault in its place."""
     found = []
     for line in lines:
-        if line.startswith("refused"):
-            found.append(line)
-        elif line.startswith("function"):
-            found.append((int(line.split()[1]), []))
-        elif line.startswith("node"):
+        kind, *words = line.split()
+        if kind == "refused":
+            found.append((words[0], int(words[1], 16)) if words else "refused")
+        elif kind == "function":
+            found.append((int(words[0]), [], {}))
+        elif kind == "first":
+            found[-1][2][int(words[0], 16)] = int(words[1])
+        elif kind == "node":
             found[-1][1].append(Reader(line).node())
     return found
 
 
-# ---- their runs
+def defined(code, names):
+    """The same by the definitions."""
+    places = {entry: place for place, entry in enumerate(names.values())}
+    for entry in names.values():
+        faults = code.function(entry).faults
+        made = None if faults else Graphs(code, entry, places).graph()
+        yield first(faults) if faults else (0, made.nodes, made.firsts)
 
 
-def width(t):
-    return t[1] if t[0] == "word" else 8 if t[0] == "Load" or t[0].startswith("Byte") else 8 * (len(t) - 1) if t[0] == "Join" \
-        else int(t[0].split("W")[1][:-1]) if t[0].startswith(("ZeroExtend", "SignExtend", "Low")) else width(t[2]) if t[0] == "Choose" \
-        else width(t[1]) if len(t) > 2 and t[0].startswith("Word") or t[0] == "Complement" else 32
+# ---- runs
 
 
-def value(t, values):
-    """Of a memory the value is a dictionary; one that is absent has 0."""
-    if t[0] == "word":
-        return t[2]
-    if t[0] == "var":
-        return values.get(t[1], 0)
-    found = [value(a, values) for a in t[1:]]
-    if t[0] == "Load":
-        return found[0].get(found[1], 0)
-    if t[0] == "Store":
-        return {**found[0], found[1]: found[2]}
-    name, _, rest = t[0].partition("(")
-    number = int(rest.strip("W)")) if rest else None
-    return operate({"ZeroExtend": "zext", "SignExtend": "sext", "Low": "low", "Byte": "byte"}.get(name) or OPERATORS[name], number, found, width(t[1]))
+class Memory:
+    """A memory of bytes, in which what isn't there is 0."""
+
+    def __init__(self, image, held):
+        self.image, self.held = image, dict(held)
+
+    def load(self, address, count):
+        return sum(self.held.get(address + i & 0xFFFFFFFF, 0) << 8 * i for i in range(count))
+
+    def store(self, address, value, count):
+        for i in range(count):
+            self.held[address + i & 0xFFFFFFFF] = value >> 8 * i & 255
 
 
-def bind(bindings, values, rest):
-    return {**rest, **{name: value(term, values) for name, term in bindings}}
+class Differs(Exception):
+    pass
 
 
-def is_shared(name):
-    return name == "m" or name[0] == "x"
+class Lockstep:
+    """A run of graphs and of the interpreter beside it."""
 
+    def __init__(self, image, graphs, place, entries, sizes, registers, held):
+        values = {f"x{r}": registers[r] for r in range(1, 32)} | {"e1": registers[1], "m": held}
+        self.run, self.x, self.pc, self.memory = Run(graphs, place, values), list(registers), entries[place], Memory(image, held)
+        self.entries, self.sizes, self.count = entries, sizes, 0
+        self.places = [{number: address for address, number in (*graph, {})[2].items()} for graph in graphs]
 
-def ran(graphs, outermost, values, steps):
-    """The values with which the graph returns; "Err", or "More" where it doesn't return in so many steps."""
-    graph, node, below = outermost, graphs[outermost][0], []
-    for _ in range(steps):
-        kind, *parts = graphs[graph][1][node]
-        if kind == "call":
-            callee, inputs, outputs, landing = parts
-            below.append((graph, outputs, landing, values))
-            values = bind(inputs, values, {name: v for name, v in values.items() if is_shared(name)})
-            graph, node = callee, graphs[callee][0]
-            continue
-        if kind == "basic":
-            values, to = bind(parts[0], values, values), parts[1]
-        else:
-            to = parts[1] if value(parts[0], values) else parts[2]
-        if to == "Err":
-            return to
-        if to != "Ret":
-            node = int(to)
-        elif not below:
-            return values
-        else:
-            graph, outputs, to, waited = below.pop()
-            kept = {name: v for name, v in waited.items() if not is_shared(name)} | {name: v for name, v in values.items() if is_shared(name)}
-            values, node = bind(outputs, values, kept), int(to)
-    return "More"
+    def advance(self):
+        if self.count:
+            self.pc = step(self.x, self.pc, self.memory)
+        self.count += 1
+
+    def check(self, pc):
+        names = [f"x{r}" for r in range(1, 32) if self.run.values[f"x{r}"] != self.x[r]]
+        if pc != self.pc or names:
+            raise Differs(f"after {self.count} instructions: at {pc:x}, the machine at {self.pc:x}; {names}")
+
+    def fails(self):
+        """The graph has failed: so has the machine, or it returns elsewhere, or leaves the function."""
+        place, at, home = self.run.graph, self.pc, self.run.values["e1"] == self.x[1]
+        test = self.run.graphs[place][1][self.run.node][1]
+        try:
+            self.advance()
+        except Trap:
+            return
+        inside = self.pc % 4 == 0 and self.entries[place] <= self.pc < self.entries[place] + self.sizes[place]
+        if home and inside if test == HOME_TEST else inside:
+            raise Differs(f"the graph fails at {at:x}, the machine goes on at {self.pc:x}")
+
+    def ends(self, steps):
+        """How it ends: "Ret", "Err" or "More"."""
+        for _ in range(steps):
+            address = self.places[self.run.graph].get(self.run.node)
+            if address is not None:
+                self.advance()
+                self.check(address)
+            self.run.step()
+            if self.run.end == "Err":
+                self.fails()
+                return "Err"
+            if self.run.end:
+                self.advance()
+                self.check(HOME)
+                if any(self.memory.held.get(a, 0) != self.run.values["m"].get(a, 0) for a in {*self.memory.held, *self.run.values["m"]}):
+                    raise Differs("another memory")
+                return "Ret"
+        return "More"
 
 
 # ---- states
@@ -398,70 +435,90 @@ def some_state(pick):
     return registers, words
 
 
-def segments(file):
-    """The bytes of an executable's segments, by address."""
-    data = file.read_bytes()
-    at, count = struct.unpack_from("<I", data, 28)[0], struct.unpack_from("<H", data, 44)[0]
-    memory = {}
-    for i in range(count):
-        kind, offset, vaddr, _, size = struct.unpack_from("<5I", data, at + 32 * i)
-        if kind == 1:
-            memory |= {vaddr + k: data[offset + k] for k in range(size)}
-    return memory
-
-
 class Rows:
     """The functions of a file, and the states from which each is run."""
 
-    def __init__(self, place, file, names, pick, count):
-        self.place, self.file, self.names = place, file, names
-        self.runs = [(name, *some_state(pick)) for name in names for _ in range(count)]
+    def __init__(self, place, file, pick, count):
+        self.place, self.file, self.image = place, file, Image(file.read_bytes())
+        self.steps = 100 if file.name.startswith("random") else STEPS
+        entries = {value: name for name, (value, _) in self.image.functions.items() if name != "_start"}
+        self.names = {entries[value]: value for value in sorted(entries)}
+        sizes = {value: size for value, size in self.image.functions.values()}
+        self.sizes, self.code = [sizes[value] for value in self.names.values()], Code(self.image.fixed, sizes)
+        self.runs = [(name, *some_state(pick)) for name in self.names for _ in range(count)]
 
     def lines(self):
         numbers = lambda *row: " ".join(f"{n:x}" for n in row)
-        runs = [f"run {numbers(self.place, self.names[name], STEPS, *registers[1:], *words)}" for name, registers, words in self.runs]
+        runs = [f"run {numbers(self.place, self.names[name], self.steps, *registers[1:], *words)}" for name, registers, words in self.runs]
         return [f"graphs {numbers(self.place, *self.names.values())}"] + runs
 
+    def runs_to(self, name):
+        """Whether all that a function reaches has a graph."""
+        return not self.code.reach(self.names[name])[1]
+
+    def held(self, words):
+        loaded = {vaddr + i: byte for vaddr, _, _, _, held in self.image.segments for i, byte in enumerate(held)}
+        return loaded | {DATA + i: byte for i, byte in enumerate(b"".join(word.to_bytes(4, "little") for word in words))}
+
+    def machine_differs(self, run, end, how, numbers):
+        """Whether the crates' machine ended otherwise than the graph."""
+        if end != "Ret":
+            return end == "More" and how == "Stopped"
+        total = 0
+        for at in range(DATA, DATA + 4 * WORDS, 4):
+            total = (31 * total + sum(run.values["m"].get(at + k, 0) << 8 * k for k in range(4))) % 2**32
+        return how != "Stopped" or [run.values[f"x{r}"] for r in range(1, 32)] + [total] != [int(n, 16) for n in numbers]
+
     def compare(self, graphs, machines):
-        """Prints how the runs ended, and answers how many differ."""
-        fixed, ends, names = segments(self.file), dict(returned=0, Err=0, More=0, differ=0), list(self.names)
-        if any(isinstance(graph, str) for graph in graphs):
-            sys.exit(f"{self.file.name}: {[pair for pair in zip(names, graphs) if isinstance(pair[1], str)]}")
-        for (name, registers, words), (how, *numbers) in zip(self.runs, machines):
-            data = b"".join(word.to_bytes(4, "little") for word in words)
-            values = {f"x{r}": registers[r] for r in range(1, 32)} | {"e1": registers[1], "m": fixed | {DATA + i: byte for i, byte in enumerate(data)}}
-            final = ran(graphs, names.index(name), values, 10 * STEPS)
-            if isinstance(final, str):
-                ends[final] += 1
-                wrong = final == "More" and how == "Stopped"
-            else:
-                ends["returned"] += 1
-                total = 0
-                for at in range(DATA, DATA + 4 * WORDS, 4):
-                    total = (31 * total + sum(final["m"].get(at + k, 0) << 8 * k for k in range(4))) % 2**32
-                wrong = how != "Stopped" or [final[f"x{r}"] for r in range(1, 32)] + [total] != [int(n, 16) for n in numbers]
+        """Answers how many functions were refused, nodes there are and runs ended how; prints what differs."""
+        ends, entries = dict(Ret=0, Err=0, More=0, apart=0, differ=0), list(self.names.values())
+        for name, graph, wanted in zip(self.names, graphs, defined(self.code, self.names)):
+            if graph != wanted:
+                ends["differ"] += 1
+                print(f"{self.file.name} {name}: another graph than that of the definitions", flush=True)
+        for (name, registers, words), machine in zip(self.runs, machines or [None] * len(self.runs)):
+            if not self.runs_to(name):
+                ends["apart"] += 1
+                continue
+            beside = Lockstep(self.image, graphs, list(self.names).index(name), entries, self.sizes, registers, self.held(words))
+            try:
+                end = beside.ends(10 * self.steps)
+                ends[end] += 1
+                wrong = "the crates' machine ended otherwise" if machine and self.machine_differs(beside.run, end, *machine) else ""
+            except (Differs, Trap) as error:
+                wrong = f"{type(error).__name__} {error}"
             if wrong:
                 ends["differ"] += 1
-                print(f"{self.file.name} {name}: differs; the machine: {how}")
-        print(f"{self.file.name}: {len(names)} functions, {sum(len(nodes) for _, nodes in graphs)} nodes; {len(self.runs)} runs: {ends}", flush=True)
-        return ends["differ"]
+                print(f"{self.file.name} {name}: {wrong}", flush=True)
+        return dict(functions=len(graphs), refused=sum(len(graph) == 2 for graph in graphs), nodes=sum(len(graph[1]) for graph in graphs if len(graph) == 3), **ends)
+
+
+def by_crates(rows):
+    """The graphs and the runs of the crates' machine, a list for each file."""
+    answers = ask(PROBE, CRATES, "\n".join(line for row in rows for line in row.lines()) + "\n", [row.file for row in rows])
+    graphs = graphs_of(line for line in answers if line.split(" ")[0] in ("refused", "function", "first", "node"))
+    machines = [(line.split()[1], line.split()[2:]) for line in answers if line.startswith("run ")]
+    if len(graphs) != sum(len(row.names) for row in rows) or len(machines) != sum(len(row.runs) for row in rows):
+        sys.exit(f"the probe answered {len(graphs)} functions and {len(machines)} runs")
+    for row in rows:
+        yield graphs[: len(row.names)], machines[: len(row.runs)]
+        graphs, machines = graphs[len(row.names) :], machines[len(row.runs) :]
 
 
 def main(seed=5, count=3):
     pick = random.Random(seed)
     with tempfile.TemporaryDirectory() as folder:
-        files = [compiled(Path(folder), level, kind) for kind in KINDS for level in LEVELS]
-        rows = [Rows(place, *file, pick, count) for place, file in enumerate(files)]
-        answers = ask(PROBE, CRATES, "\n".join(line for row in rows for line in row.lines()) + "\n", [row.file for row in rows])
-        graphs = graphs_of(answers)
-        machines = [line.split()[1:] for line in answers if line.startswith("run ")]
-        if len(graphs) != sum(len(row.names) for row in rows) or len(machines) != sum(len(row.runs) for row in rows):
-            sys.exit(f"the probe answered {len(graphs)} functions and {len(machines)} runs")
-        unlike = 0
-        for row in rows:
-            unlike += row.compare(graphs[: len(row.names)], machines[: len(row.runs)])
-            graphs, machines = graphs[len(row.names) :], machines[len(row.runs) :]
-    return bool(unlike)
+        files = [compiled(Path(folder), level, kind) for kind in KINDS for level in LEVELS] + list(random_files(Path(folder), pick))
+        rows = [Rows(place, file, pick, count) for place, file in enumerate(files)]
+        alone = ((list(defined(row.code, row.names)), None) for row in rows)
+        totals = {}
+        for row, (graphs, machines) in zip(rows, alone if "--definitions" in sys.argv else by_crates(rows)):
+            found, kind = row.compare(graphs, machines), row.file.name.split("-")[0]
+            print(f"{row.file.name}: {found}", flush=True)
+            totals[kind] = {key: totals.get(kind, {}).get(key, 0) + number for key, number in found.items()}
+        for kind, total in totals.items():
+            print(f"{kind}: {total}")
+    return any(total["differ"] for total in totals.values())
 
 
 if __name__ == "__main__":

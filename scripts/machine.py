@@ -94,6 +94,26 @@ def tiny(words, entry=0x10000, objects=(), flags=5):
     return made + struct.pack("<10I", 0, 3, 0, 0, strings, len(names), 0, 0, 1, 0)
 
 
+def executable(segments, functions):
+    """An executable of segments, each an address, words and flags, and of functions, each a name, an entry and a size."""
+    contents = [b"".join(word.to_bytes(4, "little") for word in words) for _, words, _ in segments]
+    names, symbols = b"\0", bytes(16)
+    for name, value, size in functions:
+        symbols += struct.pack("<IIIBBH", len(names), value, size, 0x12, 0, 1)
+        names += name.encode() + b"\0"
+    begin = 52 + 32 * len(segments)
+    table = begin + sum(map(len, contents))
+    strings = table + len(symbols)
+    sections = strings + len(names) + -len(names) % 4
+    made = b"\x7fELF\1\1\1" + bytes(9) + struct.pack("<HHIIIIIHHHHHH", 2, 243, 1, 0, 52, sections, 0, 52, 32, len(segments), 40, 3, 0)
+    for (address, _, flags), held in zip(segments, contents):
+        made += struct.pack("<8I", 1, begin, address, address, len(held), len(held), flags, 4)
+        begin += len(held)
+    made += b"".join(contents) + symbols + names + bytes(-len(names) % 4) + bytes(40)
+    made += struct.pack("<10I", 0, 2, 0, 0, table, len(symbols), 2, 1, 4, 16)
+    return made + struct.pack("<10I", 0, 3, 0, 0, strings, len(names), 0, 0, 1, 0)
+
+
 class Memory:
     """Bytes drawn by place and seed under those that are written. A global's bytes go by its name, so that they are the
     same in each executable."""
@@ -207,7 +227,7 @@ def step(x, pc, memory):
         put = result_of(op, funct7 if op == 5 else 0, a, i & MASK)
     elif opcode == 0x33:
         put = result_of(op, funct7, a, b)
-    else:
+    elif opcode != 0x0F or op != 0:
         raise Trap
     if rd and put is not None:
         x[rd] = put & MASK

@@ -83,7 +83,7 @@ values_of_state s other = other
 alike_there : (image : Image) (entry : ℕ) (n : Numbering) (home : ℕ) (m : Machine) (begun : ℕ) (s : State) → Corresponds image entry n home m begun s
     → (g node : ℕ) (values : Assignment) (below : List Waiting) → s ≡ Running g node values below → Alike m values
 unfolding values_of_state
-alike_there image entry n home m _ _ (corresponds function size at begun back v waiting reaches size_is here alike began are) g node values below e =
+alike_there image entry n home m _ _ (corresponds function size at begun back v waiting reaches size_is here in_run_ups alike began are) g node values below e =
     subst (Alike m) (ap (λ (s : State). values_of_state s v) e) alike
 alike_there image entry n home m _ _ (at_tail_landing graph at v waiting lands alike rest) g node values below e =
     subst (Alike m) (ap (λ (s : State). values_of_state s v) e) alike

@@ -9,8 +9,9 @@ use Rattle.elf_read_spec.specs.declared.SymbolValues.TheVariants.{One}
 use Rattle.code_reach_spec.specs.Code.{IsStack, instr_at, flow_at}
 use Rattle.graph_core_spec.specs.Graph.{Graph, Node}
 use Rattle.decompile_spec.specs.Blocks.{Setting}
-use Rattle.decompile_spec.specs.CodeGraph.{IsCodeGraph}
+use Rattle.decompile_spec.specs.CodeGraph.{IsCodeGraph, IsKept}
 use Rattle.decompile_laws.specs.Layout.{Item, AreItems}
+use Rattle.decompile_laws.proofs.KeptBranches.{one_kept}
 use Rattle.decompile.specs.Answer.{AreFirsts, setting, counting}
 use Rattle.decompile.specs.Counts.{numbered}
 use Rattle.c_types_spec.specs.Core.{Typed}
@@ -43,10 +44,12 @@ same_item image entry size one two x y item inside =
     let flow_left : flow_at image entry item.address ≡ Some item.flow = x.flows item inside in
     let flow_right : flow_at image entry item.address ≡ Some other.flow = ap (flow_at image entry) (sym address_is) ∙ y.flows other among in
     let flow_is : other.flow ≡ item.flow = cc in
-    subst (Contains two) (same other item address_is instruction_is flow_is) among
+    let keeps_is : other.keeps ≡ item.keeps =
+    one_kept image entry size item.address other.keeps item.keeps (subst (λ (a : ℕ). IsKept image entry size a other.keeps) address_is (y.kept other among)) (x.kept item inside) in
+    subst (Contains two) (same other item address_is instruction_is flow_is keeps_is) among
   where
-    same : (a b : Item) → a.address ≡ b.address → a.instruction ≡ b.instruction → a.flow ≡ b.flow → a ≡ b
-    same a b e f g = λ i. record { address = e i; instruction = f i; flow = g i }
+    same : (a b : Item) → a.address ≡ b.address → a.instruction ≡ b.instruction → a.flow ≡ b.flow → a.keeps ≡ b.keeps → a ≡ b
+    same a b e f g h = λ i. record { address = e i; instruction = f i; flow = g i; keeps = h i }
 
 one_items : (image : Image) (entry size : ℕ) (one two : List Item) → AreItems image entry size one → AreItems image entry size two → one ≡ two
 one_items image entry size one two x y =

@@ -1,14 +1,36 @@
 -- Calls as the program finds them are those of the function.
 use Rattle.std.proofs.Common.{◌≡◌, ℕ, Bool, true, false, cond, refl, sym, ◌∙◌, ap, subst}
 use Rattle.std.specs.Prelude.{Option, Some, None, IsSome, option_and_then}
+use Rattle.rv_instr.specs.declared.Instr.{Instr}
 use Rattle.elf_read_spec.specs.Image.{Image, size_at}
-use Rattle.code_reach_spec.specs.Code.{InRange, Flow, Falls, Branches, Jumps, Calls, Links, Returns, Stops, flow_at, IsReachable, CallsOn, call, tail}
+use Rattle.code_reach_spec.specs.Code.{InRange, Flow, Falls, Branches, Jumps, Calls, Links, Returns, Switches, Stops, TableJump, with_table, table_at, flow_of, instr_before, instr_at, flow_at, IsReachable, CallsOn, call, tail}
 use Rattle.code_reach_spec.specs.FaultAt.{in_range}
-use Rattle.code_reach.specs.Flows.{called_by, callee_at}
+use Rattle.code_reach.specs.Flows.{called_by, plain_flow_there, callee_at}
 use Rattle.code_reach.specs.Surveys.{CallsFrom}
 use Rattle.code_reach.proofs.Growing.{in-range, out-range}
 
 module _ (image : Image) (entry size address : ℕ) where
+  -- a jump by a table calls nothing
+  kept : (t : Option TableJump) (flow : Flow) → called_by entry size flow ≡ called_by entry size (with_table t flow)
+  kept None flow = refl
+  kept (Some jump) Falls = refl
+  kept (Some jump) (Branches target) = refl
+  kept (Some jump) (Jumps target) = refl
+  kept (Some jump) (Calls target) = refl
+  kept (Some jump) (Links target) = refl
+  kept (Some jump) Returns = refl
+  kept (Some jump) (Switches other) = refl
+  kept (Some jump) Stops = refl
+
+  pub called-plain : option_and_then (called_by entry size) (plain_flow_there image entry address) ≡ callee_at image entry size address
+  unfolding flow_at
+  called-plain = by (instr_at image address)
+    where
+      by : (o : Option Instr) → option_and_then (called_by entry size) (option_and_then (λ i. Some (flow_of (instr_before image entry address) address i)) o)
+          ≡ option_and_then (called_by entry size) (option_and_then (λ i. Some (with_table (table_at image entry address i) (flow_of (instr_before image entry address) address i))) o)
+      by None = refl
+      by (Some i) = kept (table_at image entry address i) (flow_of (instr_before image entry address) address i)
+
   callee-by : (flow : Flow) → flow_at image entry address ≡ Some flow → callee_at image entry size address ≡ called_by entry size flow
   callee-by flow is = ap (option_and_then (called_by entry size)) is
 
@@ -33,6 +55,7 @@ module _ (image : Image) (entry size address : ℕ) where
       by (Calls t) is e = let same : t ≡ target = cc in call address target reached (is ∙ ap (λ z. Some (Calls z)) same) c.entry_there
       by (Links t) is e = absurd (cc)
       by Returns is e = absurd (cc)
+      by (Switches jump) is e = absurd (cc)
       by Stops is e = absurd (cc)
 
       at : (o : Option Flow) → flow_at image entry address ≡ o → CallsOn image entry size target

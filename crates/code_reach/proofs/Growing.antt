@@ -170,5 +170,16 @@ target-one target xs ys g =
     (λ t e. subst (λ z. Contains (target ∷ []) z) (sym e) (contained target))
     (λ t among. only_contained target t among) g
 
+-- one target more
+pub target-more : (ts : List ℕ) (target : ℕ) (xs ys zs : List ℕ) → Grows (Contains ts) xs ys → Grows (λ t. t ≡ target) ys zs → Grows (Contains (ts ++ target ∷ [])) xs zs
+target-more ts target xs ys zs g h =
+    grows-as (λ t. Contains ts t ⊎ (t ≡ target)) (Contains (ts ++ target ∷ [])) xs zs
+    (λ t either. elim either [
+      | inl first ↦ Contains-append_left ts (target ∷ []) t first
+      | inr last ↦ subst (λ z. Contains (ts ++ target ∷ []) z) (sym last) (Contains-push ts target)
+    ])
+    (λ t among. elim (Contains-append_cases ts (target ∷ []) t among) [ inl first ↦ inl first | inr last ↦ inr (only_contained target t last) ])
+    (grows-then (Contains ts) (λ t. t ≡ target) xs ys zs g h)
+
 pub target-none : (xs : List ℕ) → Grows (Contains []) xs xs
 target-none xs = grows-none (Contains []) xs (λ t among. none_contained t among)

@@ -1,5 +1,6 @@
 mod Ranges
 mod Growing
+mod Switches
 mod Walks
 mod Places
 mod Listed

@@ -19,7 +19,7 @@ use Rattle.code_reach_spec.specs.Faults.{IsTarget, IsInstructionFault, IsFunctio
 use Rattle.code_reach_spec.proofs.FaultAt.{none_before, is_one}
 use Rattle.code_reach.specs.Flows.{is_among, fault_among}
 use Rattle.code_reach.specs.Growth.{IsPlace, AreTargets}
-use Rattle.code_reach.specs.Listing.{AreWords, IsStop, IsListingError}
+use Rattle.code_reach.specs.Listing.{AreWords, IsStop, IsListingError, IsWordError}
 use Rattle.code_reach.specs.Found.{IsCode, IsCodeError}
 use Rattle.attempt.specs.declared.refusal.Refusal.{Refusal}
 use Rattle.attempt.specs.declared.refusal.Refusal.TheVariants.{Fault, NoMemory}
@@ -30,7 +30,7 @@ use Rattle.code_reach.proofs.Places.{place, has-code}
 pub unfixed : (image : Image) (entry size : ℕ) (targets : List ℕ) (address : ℕ) → word_at image address ≡ None
     → fault_among image entry size targets address ≡ Some Undecoded
 unfolding fault_at instr_at
-unfixed image entry size targets address e = ap (λ o. fault_of image entry size address (is_among targets address) (option_and_then instr o)) e
+unfixed image entry size targets address e = ap (λ o. fault_of image entry size address (is_among targets) (option_and_then instr o)) e
 
 -- the words of the first so many addresses
 pub record IsListed (image : Image) (entry size : ℕ) (targets addresses : List ℕ) (index : ℕ) (words : List (ℕ × ℕ)) : Type 0 where
@@ -56,6 +56,18 @@ module _ (image : Image) (entry size : ℕ) (targets addresses : List ℕ) where
     where
       split : (k : ℕ) → k < index + 1 → (k < index) ⊎ (k ≡ index)
       split k below = grind (arith, below)
+
+  -- the instruction at the next address is wrong
+  pub listed-up_to : (index a : ℕ) (words : List (ℕ × ℕ)) (error : Refusal CodeFault) → IsListed image entry size targets addresses index words → index < length addresses
+      → a ≡ get_or addresses index 0 → IsWordError image entry size targets a error → IsListingError image entry size targets addresses error
+  listed-up_to index a words (Fault fault) so_far inside is wrong = record {
+    index = index;
+    among = inside;
+    address_is = wrong.1 ∙ is;
+    fault = subst (λ z. fault_among image entry size targets z ≡ Some fault.kind) (sym wrong.1) wrong.0;
+    before = so_far.sound;
+  }
+  listed-up_to index a words NoMemory so_far inside is wrong = tt
 
   pub listed-all : (index : ℕ) (words : List (ℕ × ℕ)) → IsListed image entry size targets addresses index words → index ≡ length addresses
       → AreWords image entry size targets addresses words
@@ -127,11 +139,11 @@ module _ (image : Image) (entry size : ℕ) (has : HasCode image entry size) (ta
 
   first-fault : (address : ℕ) (kind : CodeKind) → IsInstructionFault image entry size (IsTarget image entry size) address kind → FirstFor address kind
   first-fault address kind fault =
-      none_before image entry size address (IsTarget image entry size) (is_among targets address) (target-among address) kind fault
+      none_before image entry size address (IsTarget image entry size) (is_among targets) target-among kind fault
 
   is-fault : (address : ℕ) (kind : CodeKind) → fault_among image entry size targets address ≡ Some kind
       → IsInstructionFault image entry size (IsTarget image entry size) address kind
-  is-fault address kind is = is_one image entry size address (IsTarget image entry size) (is_among targets address) (among-target address) kind is
+  is-fault address kind is = is_one image entry size address (IsTarget image entry size) (is_among targets) among-target kind is
 
   no-fault-below : (n : ℕ) → ((k : ℕ) → k < n → fault_among image entry size targets (get_or addresses k 0) ≡ None) → (kind : CodeKind) (address : ℕ)
       (p : PlaceOf image entry size addresses are address) → IsInstructionFault image entry size (IsTarget image entry size) address kind → n ≤ p.index

@@ -3,12 +3,12 @@ use Rattle.std.proofs.Common.{◌≡◌, ◌+◌, ◌<◌, ◌≤◌, ◌%◌, �
 use Rattle.std.specs.Prelude.{nat_eq, IsSorted, IsPermutation, Contains}
 use Rattle.std.proofs.lemmas.List.{get_or_default}
 use Rattle.std.proofs.lemmas.List.Elements.{Contains-append_cases, Contains-get_or}
-use Rattle.std.specs.List.{IsDistinct}
+use Rattle.std.specs.List.{IsDistinct, flat_map}
 use Rattle.std.specs.Ordering.{nat_cmp}
 use Rattle.std.proofs.lemmas.List.Sorted.{IsNonDecreasingBy-from_sort, IsPermutation-sym, Contains-permutation}
 use Rattle.std.proofs.lemmas.Map.Keys.{IsStrictlyIncreasing-from_distinct}
 use Rattle.elf_read_spec.specs.Image.{Image}
-use Rattle.code_reach_spec.specs.Code.{InRange, HasCode, aligned, Flow, Falls, Branches, Jumps, Calls, Links, Returns, Stops, nexts_of, IsReachable, here, next as onward, AreReachable}
+use Rattle.code_reach_spec.specs.Code.{InRange, HasCode, aligned, Flow, Falls, Branches, Jumps, Calls, Links, Returns, Switches, Stops, nexts_of, IsReachable, here, next as onward, AreReachable}
 use Rattle.code_reach_spec.specs.Faults.{IsTarget, target_of_reached}
 use Rattle.code_reach.specs.Growth.{Grows, FromFirst, IsPlace, GoesTo, HasTarget, AreAllReachable, AreTargets}
 use Rattle.code_reach.proofs.Growing.{none_contained, only_contained}
@@ -24,6 +24,13 @@ among-aligned target t = at (target % 4 == 0) refl
     at true e among = ap (λ x. x % 4) (only_contained target t among) ∙ eqb-true (target % 4) 0 e
     at false e among = absurd (none_contained t among)
 
+among-each : (targets : List ℕ) (t : ℕ) → Contains (flat_map aligned targets) t → t % 4 ≡ 0
+among-each [] t among = absurd (none_contained t among)
+among-each (target ∷ targets) t among = elim (Contains-append_cases (aligned target) (flat_map aligned targets) t among) [
+  | inl first ↦ among-aligned target t first
+  | inr rest ↦ among-each targets t rest
+]
+
 after-aligned : (address t : ℕ) → address % 4 ≡ 0 → Contains ((address + 4) ∷ []) t → t % 4 ≡ 0
 after-aligned address t e among = omega (arith, e, only_contained (address + 4) t among)
 
@@ -37,6 +44,7 @@ next-aligned address t (Jumps target) e among = among-aligned target t among
 next-aligned address t (Calls target) e among = after-aligned address t e among
 next-aligned address t (Links target) e among = among-aligned target t among
 next-aligned address t Returns e among = absurd (none_contained t among)
+next-aligned address t (Switches jump) e among = among-each jump.targets t among
 next-aligned address t Stops e among = absurd (none_contained t among)
 
 pub has-code : (image : Image) (entry size address : ℕ) → IsReachable image entry size address → HasCode image entry size

@@ -1,6 +1,6 @@
 -- The calls and the first fault of one function.
 use Rattle.std.proofs.Common.{◌≡◌, ℕ, List, length, get_or, sym, ◌∙◌, ap, subst}
-use Rattle.std.specs.Prelude.{Option, Some, None, IsSome, MatchOption}
+use Rattle.std.specs.Prelude.{Option, Some, None, IsSome, MatchOption, Result, Ok, Err, IfOk, OnOk}
 use Rattle.std.proofs.lemmas.List.Elements.{Contains-get_or}
 use Rattle.elf_read_spec.specs.Image.{Image, size_at}
 use Rattle.code_reach_spec.specs.declared.CodeKind.{CodeKind}
@@ -92,3 +92,13 @@ module _ (image : Image) (entry size : ℕ) (is : size_at image entry ≡ Some s
     fault-of-code (Some f) stop =
         first-as (IsFunctionFault image entry size) (HasFault image entry) f.kind f.address has-fault fault-of
         (first-of-stop image entry size has targets addresses are all f.kind f.address stop)
+
+    pub fault-of-result : {E : Type 0} (r : Result (Option CodeFault) E)
+        → IfOk r (λ found. MatchOption found (AreSound image entry size targets addresses) (λ fault. IsStop image entry size targets addresses fault.kind fault.address))
+        → IfOk r (IsFirstOf (HasFault image entry))
+    fault-of-result (Ok found) is = fault-of-code found is
+    fault-of-result (Err e) is = tt
+
+pub in-any-case : {T E P : Type 0} (r : Result T E) → P → OnOk r P
+in-any-case (Ok x) p = p
+in-any-case (Err e) p = tt

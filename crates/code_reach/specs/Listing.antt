@@ -25,3 +25,8 @@ pub record IsStop (image : Image) (entry size : ℕ) (targets addresses : List �
 abbrev pub IsListingError : Image → (entry size : ℕ) → (targets addresses : List ℕ) → Refusal CodeFault → Type 0
 IsListingError image entry size targets addresses (Fault fault) = IsStop image entry size targets addresses fault.kind fault.address
 IsListingError image entry size targets addresses NoMemory = Unit {0}
+
+-- what is wrong with the instruction at an address; out of memory may come at any time
+abbrev pub IsWordError : Image → (entry size : ℕ) → (targets : List ℕ) → (address : ℕ) → Refusal CodeFault → Type 0
+IsWordError image entry size targets address (Fault fault) = (fault_among image entry size targets address ≡ Some fault.kind) × (fault.address ≡ address)
+IsWordError image entry size targets address NoMemory = Unit {0}

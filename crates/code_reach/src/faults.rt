@@ -1,18 +1,24 @@
 //! What is wrong with code.
 
-ghost use Rattle.std.specs.Prelude.{◌≡◌, ◌+◌, ◌<◌, ◌≤◌, ◌^◌, ◌&&◌, ◌||◌, is_some};
+ghost use Rattle.std.specs.Prelude.{◌≡◌, ◌+◌, ◌<◌, ◌≤◌, ◌^◌, ◌&&◌, ◌||◌, is_some, IfOk};
+ghost use Rattle.std.specs.List.{list_all};
 ghost use Rattle.code_reach_spec.specs.FaultAt as spec;
 ghost use Rattle.code_reach_spec.specs.Faults.{is_jalr as is_jalr_of};
+ghost use Rattle.code_reach_spec.specs.Faults.{is_indirect as is_indirect_of};
+ghost use Rattle.elf_read_spec.specs.Image as elf;
 ghost use Rattle.elf_read_spec.specs.Image.{size_at};
-ghost use Rattle.code_reach.specs.Flows.{flow_seen, fault_among};
+ghost use Rattle.code_reach_tables.specs.Tables.{targets_from};
+ghost use Rattle.code_reach.specs.Flows.{flow_seen, is_among, is_inside, fault_among};
 ghost use Rattle.attempt.specs.declared.refusal.Refusal.TheVariants.{Fault};
 
-use crate::flows::{Flow, flow_of, instruction_at, instruction_before};
+use crate::flows::{Flow, flow_of};
 use attempt::Refusal;
 use code_reach_spec::CodeKind;
+use code_reach_tables::{TableJump, instruction_at, target};
 use elf_read::Image;
 use indexmap::IndexSet;
 use rv_instr::Instr;
+use std::alloc::{AllocError, Global};
 use thiserror::Error;
 
 /// What is wrong with code, and at which address.
@@ -58,7 +64,7 @@ fn is_jalr(instruction: &Instr) -> bool
 
 /// Whether the instruction calls what is no function.
 fn calls_none(image: &Image<'_>, flow: Flow) -> bool
-    ensures { result ≡ spec.calls_none image.now (flow_seen flow) }
+    ensures { result ≡ spec.calls_none image.now (flow_seen image.now flow) }
 {
     match flow {
         Flow::Calls(target) => image.size_at(target).is_none(),
@@ -66,16 +72,47 @@ fn calls_none(image: &Image<'_>, flow: Flow) -> bool
     }
 }
 
-/// Whether the instruction goes to an unknown address, or is the JALR of a pair that can be reached
-/// without its AUIPC: it is the target of an instruction that is reached.
-fn is_unknown(instruction: &Instr, flow: Flow, is_target: bool) -> bool
-    ensures { result ≡ spec.is_unknown is_target instruction.now (flow_seen flow) }
+/// Whether one of so many words down from an address is a target.
+fn some_target(targets: &IndexSet<u32>, address: u32, count: u32) -> bool
+    ensures { result ≡ spec.some_target (is_among targets.now.keys) address count }
+{
+    for back in 0..count {
+        if targets.contains(&address.saturating_sub(back.saturating_mul(4))) {
+            return true;
+        }
+    }
+    false
+}
+
+/// Whether the instruction can be reached without the words before it by which its address is
+/// known: the JALR of a pair, or a word of a run-up after its first one, is the target of an
+/// instruction that is reached.
+fn is_entered(targets: &IndexSet<u32>, address: u32, instruction: &Instr, flow: Flow) -> bool
+    ensures { (image : elf.Image) → result ≡ spec.is_entered (is_among targets.now.keys) address
+        instruction.now (flow_seen image flow) }
+{
+    match flow {
+        Flow::Jumps(_) | Flow::Calls(_) => is_jalr(instruction) && targets.contains(&address),
+        Flow::Switches(jump) => some_target(targets, address, jump.before),
+        Flow::Falls | Flow::Branches(_) | Flow::Links(_) | Flow::Returns | Flow::Stops => false,
+    }
+}
+
+/// Whether the instruction goes to an address that the file doesn't determine, or keeps the return
+/// address in a register other than x1.
+fn is_indirect(instruction: &Instr, flow: Flow) -> bool
+    ensures { (image : elf.Image) → result
+        ≡ is_indirect_of instruction.now (flow_seen image flow) }
 {
     match flow {
         Flow::Links(_) => true,
         Flow::Stops => is_jalr(instruction),
-        Flow::Jumps(_) | Flow::Calls(_) => is_target && is_jalr(instruction),
-        Flow::Falls | Flow::Branches(_) | Flow::Returns => false,
+        Flow::Falls
+        | Flow::Branches(_)
+        | Flow::Jumps(_)
+        | Flow::Calls(_)
+        | Flow::Returns
+        | Flow::Switches(_) => false,
     }
 }
 
@@ -87,12 +124,32 @@ fn may_jump(image: &Image<'_>, entry: u32, size: u32, target: u32) -> bool
     is_in_range(entry, size, target) || image.size_at(target).is_some()
 }
 
+/// Whether a jump by a table may go there: to a multiple of 4 in the range.
+fn is_table_target(entry: u32, size: u32, target: u32) -> bool
+    ensures { result ≡ is_inside entry size target }
+{
+    target.is_multiple_of(4) && is_in_range(entry, size, target)
+}
+
+/// Whether each word of a table is a multiple of 4 and lies in the range.
+fn all_inside(image: &Image<'_>, entry: u32, size: u32, jump: TableJump) -> bool
+    ensures { result ≡ list_all (is_inside entry size)
+        (targets_from image.now jump.first jump.count) }
+{
+    for index in 0..jump.count {
+        if !is_table_target(entry, size, target(image, jump, index)) {
+            return false;
+        }
+    }
+    true
+}
+
 /// Whether control stays in the function after an instruction, or ends it by a tail call. A call
 /// comes back to the next instruction, which may lie outside.
 fn stays(image: &Image<'_>, entry: u32, size: u32, address: u32, flow: Flow) -> bool
     requires from { entry ≤ address }
     requires below { address < entry + size }
-    ensures { result ≡ spec.stays image.now entry size address (flow_seen flow) }
+    ensures { result ≡ spec.stays image.now entry size address (flow_seen image.now flow) }
 {
     match flow {
         Flow::Falls => has_next(entry, size, address),
@@ -100,6 +157,7 @@ fn stays(image: &Image<'_>, entry: u32, size: u32, address: u32, flow: Flow) -> 
             has_next(entry, size, address) && is_in_range(entry, size, target)
         }
         Flow::Jumps(target) => may_jump(image, entry, size, target),
+        Flow::Switches(jump) => all_inside(image, entry, size, jump),
         Flow::Calls(_) | Flow::Links(_) | Flow::Returns | Flow::Stops => true,
     }
 }
@@ -109,20 +167,20 @@ fn flow_fault(
     image: &Image<'_>,
     entry: u32,
     size: u32,
+    targets: &IndexSet<u32>,
     address: u32,
-    is_target: bool,
     instruction: &Instr,
     flow: Flow,
 ) -> Option<CodeKind>
     requires from { entry ≤ address }
     requires below { address < entry + size }
-    ensures { result ≡ spec.flow_fault image.now entry size address is_target instruction.now
-        (flow_seen flow) }
+    ensures { result ≡ spec.flow_fault image.now entry size address (is_among targets.now.keys)
+        instruction.now (flow_seen image.now flow) }
 {
     if calls_none(image, flow) {
         return Some(CodeKind::NoFunction);
     }
-    if is_unknown(instruction, flow, is_target) {
+    if is_indirect(instruction, flow) || is_entered(targets, address, instruction, flow) {
         return Some(CodeKind::Indirect);
     }
     if stays(image, entry, size, address, flow) {
@@ -135,24 +193,23 @@ fn flow_fault(
 /// the targets that it reaches.
 #[tactic(auto, unfolding(code_reach_spec::specs::FaultAt::fault_at))]
 pub(crate) fn fault_at(
+    alloc: Global,
     image: &Image<'_>,
     entry: u32,
     size: u32,
     targets: &IndexSet<u32>,
     address: u32,
-) -> Option<CodeKind>
+) -> Result<Option<CodeKind>, AllocError>
     requires from { entry ≤ address }
     requires below { address < entry + size }
     requires whole { address + 4 ≤ 2 ^ 32 }
-    ensures { result ≡ fault_among image.now entry size targets.now.keys address }
+    ensures { IfOk result (λ found. found
+        ≡ fault_among image.now entry size targets.now.keys address) }
 {
-    match instruction_at(image, address) {
-        None => Some(CodeKind::Undecoded),
-        Some(instruction) => {
-            let previous = instruction_before(image, entry, address);
-            let flow = flow_of(previous, address, &instruction);
-            let is_target = targets.contains(&address);
-            flow_fault(image, entry, size, address, is_target, &instruction, flow)
-        }
-    }
+    let Some(instruction) = instruction_at(image, address) else {
+        return Ok(Some(CodeKind::Undecoded));
+    };
+    let flow = flow_of(alloc, image, entry, address, &instruction)?;
+    let fault = flow_fault(image, entry, size, targets, address, &instruction, flow);
+    Ok(fault)
 }

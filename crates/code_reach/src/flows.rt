@@ -1,18 +1,19 @@
-//! Words and instructions, and where control goes after them.
+//! Where control goes after an instruction.
 
 ghost use Rattle.std.specs.Prelude.{◌≡◌, ◌+◌, ◌-◌, ◌*◌, ◌/◌, ◌≤◌, ◌^◌, ◌==◌, ◌&&◌};
-ghost use Rattle.std.specs.Prelude.{not, nat_le, if◌then◌else◌, Some};
+ghost use Rattle.std.specs.Prelude.{not, nat_le, if◌then◌else◌, IfOk, Some};
 ghost use Rattle.std.specs.Option.{option_map};
+ghost use Rattle.elf_read_spec.specs.Image as elf;
 ghost use Rattle.rv_machine_spec.specs.Arithmetic.{word as word_of};
 ghost use Rattle.rv_machine_spec.specs.Machine.{past};
 ghost use Rattle.code_reach_spec.specs.Code as spec;
-ghost use Rattle.code_reach_spec.specs.Code.{word_at};
-ghost use Rattle.code_reach.specs.Flows.{flow_seen};
+ghost use Rattle.code_reach_tables.specs.Tables.{jump_seen};
+ghost use Rattle.code_reach.specs.Flows.{flow_seen, flow_there, plain_flow_there};
 
-use byteorder::{ByteOrder, LittleEndian};
+use code_reach_tables::{TableJump, instruction_at, table_at};
 use elf_read::Image;
-use rv_decode::decode;
 use rv_instr::{Instr, Reg};
+use std::alloc::{AllocError, Global};
 
 /// Where control goes after an instruction.
 #[derive(Clone, Copy)]
@@ -29,30 +30,10 @@ pub enum Flow {
     Links(u32),
     /// To the return address.
     Returns,
+    /// To one of the words of a table.
+    Switches(TableJump),
     /// To no address that the file determines.
     Stops,
-}
-
-/// The word at an address, if its four bytes are fixed.
-pub(crate) fn word(image: &Image<'_>, address: u32) -> Option<u32>
-    requires { address + 4 ≤ 2 ^ 32 }
-    ensures { result ≡ word_at image.now address }
-{
-    let first = image.fixed_byte(address)?;
-    let second = image.fixed_byte(address + 1)?;
-    let third = image.fixed_byte(address + 2)?;
-    let fourth = image.fixed_byte(address + 3)?;
-    let bytes = [first, second, third, fourth];
-    Some(LittleEndian::read_u32(&bytes))
-}
-
-/// The instruction at an address, if its four bytes are fixed and have a form.
-#[tactic(auto, unfolding(code_reach_spec::specs::Code::instr_at))]
-pub fn instruction_at(image: &Image<'_>, address: u32) -> Option<Instr>
-    requires { address + 4 ≤ 2 ^ 32 }
-    ensures { result ≡ spec.instr_at image.now address }
-{
-    decode(word(image, address)?)
 }
 
 /// The address `offset` bytes from another; addresses wrap.
@@ -64,8 +45,8 @@ fn moved(address: u32, offset: i32) -> u32
 
 /// The flow of a JAL.
 fn jump_flow(rd: Reg, target: u32) -> Flow
-    ensures { flow_seen result ≡ (if rd == 0 then spec.Jumps target else if rd == 1 then spec.Calls
-        target else spec.Links target) }
+    ensures { (image : elf.Image) → flow_seen image result ≡ (if rd == 0 then spec.Jumps target
+        else if rd == 1 then spec.Calls target else spec.Links target) }
 {
     match rd.number() {
         0 => Flow::Jumps(target),
@@ -124,7 +105,7 @@ fn pair_target(
 
 /// The flow of a JALR that is no return, where it goes to this target as the second word of a pair.
 fn pair_flow(target: Option<u32>, rd: Reg) -> Flow
-    ensures { flow_seen result ≡ spec.flow_of_pair target rd }
+    ensures { (image : elf.Image) → flow_seen image result ≡ spec.flow_of_pair target rd }
 {
     match target {
         Some(target) if rd.number() == 0 => Flow::Jumps(target),
@@ -133,9 +114,11 @@ fn pair_flow(target: Option<u32>, rd: Reg) -> Flow
     }
 }
 
-/// The flow of an instruction at an address, given the one before it in the same function.
-pub(crate) fn flow_of(previous: Option<Instr>, address: u32, instruction: &Instr) -> Flow
-    ensures { flow_seen result ≡ spec.flow_of previous address instruction.now }
+/// The flow of an instruction at an address, given the one before it in the same function; jumps by
+/// tables are not looked for.
+fn plain_flow(previous: Option<Instr>, address: u32, instruction: &Instr) -> Flow
+    ensures { (image : elf.Image) → flow_seen image result
+        ≡ spec.flow_of previous address instruction.now }
 {
     match *instruction {
         Instr::Jal { rd, offset } => jump_flow(rd, moved(address, offset)),
@@ -172,14 +155,72 @@ pub(crate) fn instruction_before(image: &Image<'_>, entry: u32, address: u32) ->
     None
 }
 
-/// The flow of the instruction at an address of the function at an entry.
-#[tactic(auto, unfolding(code_reach_spec::specs::Code::flow_at))]
-pub fn flow_at(image: &Image<'_>, entry: u32, address: u32) -> Option<Flow>
+/// The flow where a jump by a table is found: it is one to no address that is known otherwise.
+fn with_table(found: Option<TableJump>, flow: Flow) -> Flow
+    ensures { (image : elf.Image) → flow_seen image result
+        ≡ spec.with_table (option_map (jump_seen image) found) (flow_seen image flow) }
+{
+    match flow {
+        Flow::Stops => match found {
+            Some(jump) => Flow::Switches(jump),
+            None => Flow::Stops,
+        },
+        Flow::Falls
+        | Flow::Branches(_)
+        | Flow::Jumps(_)
+        | Flow::Calls(_)
+        | Flow::Links(_)
+        | Flow::Returns
+        | Flow::Switches(_) => flow,
+    }
+}
+
+/// The flow of an instruction at an address of the function at an entry.
+pub(crate) fn flow_of(
+    alloc: Global,
+    image: &Image<'_>,
+    entry: u32,
+    address: u32,
+    instruction: &Instr,
+) -> Result<Flow, AllocError>
     requires from { entry ≤ address }
     requires whole { address + 4 ≤ 2 ^ 32 }
-    ensures { option_map flow_seen result ≡ spec.flow_at image.now entry address }
+    ensures { IfOk result (λ flow. flow_seen image.now flow ≡ flow_there image.now entry address
+        instruction.now) }
+{
+    let previous = instruction_before(image, entry, address);
+    let flow = plain_flow(previous, address, instruction);
+    let found = table_at(alloc, image, entry, address, instruction)?;
+    Ok(with_table(found, flow))
+}
+
+/// The flow of the instruction at an address of the function at an entry.
+#[tactic(auto, unfolding(code_reach_spec::specs::Code::flow_at))]
+pub fn flow_at(
+    alloc: Global,
+    image: &Image<'_>,
+    entry: u32,
+    address: u32,
+) -> Result<Option<Flow>, AllocError>
+    requires from { entry ≤ address }
+    requires whole { address + 4 ≤ 2 ^ 32 }
+    ensures { IfOk result (λ flow. option_map (flow_seen image.now) flow
+        ≡ spec.flow_at image.now entry address) }
+{
+    let Some(instruction) = instruction_at(image, address) else {
+        return Ok(None);
+    };
+    let flow = flow_of(alloc, image, entry, address, &instruction)?;
+    Ok(Some(flow))
+}
+
+/// The same, with a jump by a table as one to no known address.
+pub(crate) fn plain_flow_at(image: &Image<'_>, entry: u32, address: u32) -> Option<Flow>
+    requires from { entry ≤ address }
+    requires whole { address + 4 ≤ 2 ^ 32 }
+    ensures { option_map (flow_seen image.now) result ≡ plain_flow_there image.now entry address }
 {
     let instruction = instruction_at(image, address)?;
     let previous = instruction_before(image, entry, address);
-    Some(flow_of(previous, address, &instruction))
+    Some(plain_flow(previous, address, &instruction))
 }

@@ -2,6 +2,7 @@
 
 ghost use Rattle.std.specs.Prelude.{◌≡◌, ◌+◌, ◌<◌, ◌≤◌, ◌^◌, length, All, IfOk, OnOk, IsSome};
 ghost use Rattle.std.specs.Prelude.{MatchOption};
+ghost use Rattle.elf_read_spec.specs.Image as elf;
 ghost use Rattle.elf_read_spec.specs.Image.{size_at};
 ghost use Rattle.code_reach_spec.specs.Faults.{rank as rank_of};
 ghost use Rattle.code_reach.specs.Flows.{flow_seen, called_by, callee_at as callee_there};
@@ -12,7 +13,7 @@ ghost use Rattle.code_reach.specs.Surveys.{CallsFrom, CallsOut, HasFault, AreSou
 ghost use Rattle.code_reach.specs.Surveys.{IsFirstOf};
 
 use crate::faults::{CodeFault, fault_at, is_in_range};
-use crate::flows::{Flow, flow_at};
+use crate::flows::{Flow, plain_flow_at};
 use crate::range::range_fault;
 use crate::walk::{add, reached};
 use code_reach_spec::CodeKind;
@@ -61,7 +62,7 @@ pub(crate) fn earlier(first: Option<CodeFault>, second: Option<CodeFault>) -> Op
 /// Where an instruction of this flow calls, in the function of this entry and size: the target of a
 /// call, and that of a tail call, which is a jump out of the range.
 pub fn callee(entry: u32, size: u32, flow: Flow) -> Option<u32>
-    ensures { result ≡ called_by entry size (flow_seen flow) }
+    ensures { (image : elf.Image) → result ≡ called_by entry size (flow_seen image flow) }
 {
     match flow {
         Flow::Jumps(target) => {
@@ -72,7 +73,12 @@ pub fn callee(entry: u32, size: u32, flow: Flow) -> Option<u32>
             }
         }
         Flow::Calls(target) => Some(target),
-        Flow::Falls | Flow::Branches(_) | Flow::Links(_) | Flow::Returns | Flow::Stops => None,
+        Flow::Falls
+        | Flow::Branches(_)
+        | Flow::Links(_)
+        | Flow::Returns
+        | Flow::Switches(_)
+        | Flow::Stops => None,
     }
 }
 
@@ -82,7 +88,7 @@ pub fn callee_at(image: &Image<'_>, entry: u32, size: u32, address: u32) -> Opti
     requires whole { address + 4 ≤ 2 ^ 32 }
     ensures { result ≡ callee_there image.now entry size address }
 {
-    let flow = flow_at(image, entry, address)?;
+    let flow = plain_flow_at(image, entry, address)?;
     callee(entry, size, flow)
 }
 
@@ -129,26 +135,29 @@ fn add_calls(
 /// The first of some addresses of a function at which an instruction is wrong, where these are the
 /// targets that it reaches.
 fn first_wrong(
+    alloc: Global,
     image: &Image<'_>,
     entry: u32,
     size: u32,
     targets: &IndexSet<u32>,
     addresses: &[u32],
-) -> Option<CodeFault>
+) -> Result<Option<CodeFault>, AllocError>
     requires { All (IsPlace entry size) addresses.now }
-    ensures { MatchOption result (AreSound image.now entry size targets.now.keys addresses.now)
+    ensures { IfOk result (λ found. MatchOption found
+        (AreSound image.now entry size targets.now.keys addresses.now)
         (λ fault. IsStop image.now entry size targets.now.keys addresses.now fault.kind
-        fault.address) }
+        fault.address)) }
 {
     for address in addresses {
-        if let Some(kind) = fault_at(image, entry, size, targets, *address) {
-            return Some(CodeFault {
+        let found = fault_at(alloc, image, entry, size, targets, *address)?;
+        if let Some(kind) = found {
+            return Ok(Some(CodeFault {
                 kind,
                 address: *address,
-            });
+            }));
         }
     }
-    None
+    Ok(None)
 }
 
 /// Adds the entries that a function calls, and answers its first fault.
@@ -174,5 +183,5 @@ pub(crate) fn visit(
     let places = reached(alloc, &mut targets, image, entry, size)?;
     let addresses = places.as_slice();
     add_calls(entries, image, entry, size, addresses)?;
-    Ok(first_wrong(image, entry, size, &targets, addresses))
+    first_wrong(alloc, image, entry, size, &targets, addresses)
 }

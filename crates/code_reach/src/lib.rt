@@ -17,8 +17,9 @@ mod stacks;
 mod survey;
 mod walk;
 
+pub use code_reach_tables::{TableJump, instruction_at, target};
 pub use faults::CodeFault;
-pub use flows::{Flow, flow_at, instruction_at};
+pub use flows::{Flow, flow_at};
 pub use functions::{callee, callee_at};
 pub use listing::code;
 pub use range::range_fault;

@@ -5,15 +5,15 @@ ghost use Rattle.elf_read_spec.specs.Image.{size_at};
 ghost use Rattle.code_reach_spec.specs.Code.{word_at};
 ghost use Rattle.code_reach.specs.Flows.{fault_among};
 ghost use Rattle.code_reach.specs.Growth.{IsPlace};
-ghost use Rattle.code_reach.specs.Listing.{AreWords, IsListingError};
+ghost use Rattle.code_reach.specs.Listing.{AreWords, IsListingError, IsWordError};
 ghost use Rattle.code_reach.specs.Found.{IsCode, IsCodeError};
 
 use crate::faults::{CodeFault, fault_at};
-use crate::flows::word;
 use crate::range::range_fault;
 use crate::walk::reached;
-use attempt::Refusal;
+use attempt::{Refusal, attempt};
 use code_reach_spec::CodeKind;
+use code_reach_tables::word;
 use elf_read::Image;
 use indexmap::IndexSet;
 use std::alloc::Global;
@@ -21,28 +21,28 @@ use std::alloc::Global;
 /// The word at an address of a function, unless the instruction is wrong, where these are the
 /// targets that the function reaches.
 fn sound_word(
+    alloc: Global,
     image: &Image<'_>,
     entry: u32,
     size: u32,
     targets: &IndexSet<u32>,
     address: u32,
-) -> Result<u32, CodeFault>
+) -> Result<u32, Refusal<CodeFault>>
     requires { IsPlace entry size address }
     ensures word { IfOk result (λ found. word_at image.now address ≡ Some found) }
     ensures sound { IfOk result (λ _. fault_among image.now entry size targets.now.keys address
         ≡ None) }
-    ensures fault { IfErr result (λ fault. fault_among image.now entry size targets.now.keys address
-        ≡ Some fault.kind) }
-    ensures address { IfErr result (λ fault. fault.address ≡ address) }
+    ensures fault { IfErr result (IsWordError image.now entry size targets.now.keys address) }
 {
     let Some(found) = word(image, address) else {
-        return Err(CodeFault {
+        return Err(Refusal::Fault(CodeFault {
             kind: CodeKind::Undecoded,
             address,
-        });
+        }));
     };
-    match fault_at(image, entry, size, targets, address) {
-        Some(kind) => Err(CodeFault { kind, address }),
+    let fault = fault_at(alloc, image, entry, size, targets, address)?;
+    match fault {
+        Some(kind) => Err(Refusal::Fault(CodeFault { kind, address })),
         None => Ok(found),
     }
 }
@@ -64,7 +64,7 @@ fn words(
 {
     let mut words = Vec::new(alloc);
     for address in addresses {
-        let found = sound_word(image, entry, size, targets, *address)?;
+        let found = attempt!(sound_word(alloc, image, entry, size, targets, *address));
         words.push((*address, found))?;
     }
     Ok(words)

@@ -15,12 +15,12 @@ ghost use Rattle.code_reach.specs.Stacks.{IsFresh, known_or_zero, opening_at};
 ghost use Rattle.code_reach.specs.Surveys.{CallsOut};
 
 use crate::faults::CodeFault;
-use crate::flows::instruction_at;
 use crate::functions::visit;
 use crate::range::range_fault;
 use crate::survey::add_entries;
 use crate::walk::{add, reached};
 use attempt::{Refusal, attempt};
+use code_reach_tables::instruction_at;
 use elf_read::Image;
 use indexmap::{IndexMap, IndexSet};
 use rv_instr::{ImmediateOperation, Instr, Reg};

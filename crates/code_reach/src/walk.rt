@@ -1,15 +1,18 @@
 //! The addresses that a function reaches, and the targets of the instructions there.
 
 ghost use Rattle.std.specs.Prelude.{◌≡◌, ◌+◌, ◌<◌, ◌≤◌, ◌^◌, ◌%◌, ◌∷◌, [], IfOk, OnOk, Contains};
+ghost use Rattle.std.specs.List.{flat_map};
 ghost use Rattle.code_reach_spec.specs.Code as spec;
 ghost use Rattle.code_reach_spec.specs.Code.{HasCode, AreReachable};
 ghost use Rattle.code_reach_spec.specs.Faults.{targets_of};
+ghost use Rattle.code_reach_tables.specs.Tables.{targets_from};
 ghost use Rattle.code_reach.specs.Flows.{flow_seen};
 ghost use Rattle.code_reach.specs.Growth.{Grows, IsInside, GoesTo, HasTarget, AreAllReachable};
 ghost use Rattle.code_reach.specs.Growth.{AreTargets};
 
 use crate::faults::{has_next, is_in_range};
 use crate::flows::{Flow, flow_at};
+use code_reach_tables::{TableJump, target};
 use elf_read::Image;
 use indexmap::IndexSet;
 use std::alloc::{AllocError, Global};
@@ -60,9 +63,27 @@ fn add_target(
     Ok(())
 }
 
+/// Adds the targets of a jump by a table that are aligned and lie in the range.
+fn add_jump(
+    reached: &mut IndexSet<u32>,
+    image: &Image<'_>,
+    entry: u32,
+    size: u32,
+    jump: TableJump,
+) -> Result<(), AllocError>
+    ensures { OnOk result (Grows (IsInside entry size (flat_map spec.aligned
+        (targets_from image.now jump.first jump.count))) reached.old.keys reached.new.keys) }
+{
+    for index in 0..jump.count {
+        add_target(reached, entry, size, target(image, jump, index))?;
+    }
+    Ok(())
+}
+
 /// Adds the addresses to which control may go after an instruction, inside the range.
 fn add_flow(
     reached: &mut IndexSet<u32>,
+    image: &Image<'_>,
     entry: u32,
     size: u32,
     address: u32,
@@ -72,7 +93,7 @@ fn add_flow(
     requires below { address < entry + size }
     requires in_space { entry + size ≤ 2 ^ 32 }
     ensures { OnOk result (Grows (IsInside entry size
-        (spec.nexts_of address (flow_seen flow))) reached.old.keys reached.new.keys) }
+        (spec.nexts_of address (flow_seen image.now flow))) reached.old.keys reached.new.keys) }
 {
     match flow {
         Flow::Falls | Flow::Calls(_) => {
@@ -88,18 +109,42 @@ fn add_flow(
             add_target(reached, entry, size, target)?;
             Ok(())
         }
+        Flow::Switches(jump) => {
+            add_jump(reached, image, entry, size, jump)?;
+            Ok(())
+        }
         Flow::Returns | Flow::Stops => Ok(()),
     }
 }
 
-/// Adds the target of a branch, a jump or a link, wherever it lies; that of a call is none.
-fn add_targets(targets: &mut IndexSet<u32>, flow: Flow) -> Result<(), AllocError>
+/// Adds the words of a table.
+fn add_words(
+    targets: &mut IndexSet<u32>,
+    image: &Image<'_>,
+    jump: TableJump,
+) -> Result<(), AllocError>
     ensures { OnOk result (Grows (Contains
-        (targets_of (flow_seen flow))) targets.old.keys targets.new.keys) }
+        (targets_from image.now jump.first jump.count)) targets.old.keys targets.new.keys) }
+{
+    for index in 0..jump.count {
+        add(targets, target(image, jump, index))?;
+    }
+    Ok(())
+}
+
+/// Adds the target of a branch, a jump or a link, wherever it lies, and those of a table; that of a
+/// call is none.
+fn add_targets(targets: &mut IndexSet<u32>, image: &Image<'_>, flow: Flow) -> Result<(), AllocError>
+    ensures { OnOk result (Grows (Contains
+        (targets_of (flow_seen image.now flow))) targets.old.keys targets.new.keys) }
 {
     match flow {
         Flow::Branches(target) | Flow::Jumps(target) | Flow::Links(target) => {
             add(targets, target)?;
+            Ok(())
+        }
+        Flow::Switches(jump) => {
+            add_words(targets, image, jump)?;
             Ok(())
         }
         Flow::Falls | Flow::Calls(_) | Flow::Returns | Flow::Stops => Ok(()),
@@ -109,6 +154,7 @@ fn add_targets(targets: &mut IndexSet<u32>, flow: Flow) -> Result<(), AllocError
 /// Adds the addresses to which control may go from one of a function that has code, and the targets
 /// of the instruction there.
 fn follow(
+    alloc: Global,
     reached: &mut IndexSet<u32>,
     targets: &mut IndexSet<u32>,
     image: &Image<'_>,
@@ -125,11 +171,12 @@ fn follow(
     ensures targets { OnOk result (Grows (HasTarget image.now entry address) targets.old.keys
         targets.new.keys) }
 {
-    match flow_at(image, entry, address) {
+    let found = flow_at(alloc, image, entry, address)?;
+    match found {
         None => Ok(()),
         Some(flow) => {
-            add_flow(reached, entry, size, address, flow)?;
-            add_targets(targets, flow)?;
+            add_flow(reached, image, entry, size, address, flow)?;
+            add_targets(targets, image, flow)?;
             Ok(())
         }
     }
@@ -138,6 +185,7 @@ fn follow(
 /// Adds the addresses that are reached from the entry of a function that has code, each once, and
 /// the targets of the instructions there.
 fn add_reached(
+    alloc: Global,
     reached: &mut IndexSet<u32>,
     targets: &mut IndexSet<u32>,
     image: &Image<'_>,
@@ -154,7 +202,7 @@ fn add_reached(
     let mut next = 0;
     while next < reached.len() {
         let address = reached.as_slice()[next];
-        follow(reached, targets, image, entry, size, address)?;
+        follow(alloc, reached, targets, image, entry, size, address)?;
         next += 1;
     }
     Ok(())
@@ -175,7 +223,7 @@ pub(crate) fn reached(
     ensures targets { OnOk result (AreTargets image.now entry size targets.new.keys) }
 {
     let mut reached = IndexSet::new(alloc);
-    add_reached(&mut reached, targets, image, entry, size)?;
+    add_reached(alloc, &mut reached, targets, image, entry, size)?;
     reached.sort()?;
     Ok(reached)
 }

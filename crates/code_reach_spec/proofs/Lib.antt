@@ -1,2 +1,4 @@
 pub mod FaultAt
 pub mod First
+pub mod RunUp
+pub mod RunUpPlaces

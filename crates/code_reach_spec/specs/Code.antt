@@ -1,6 +1,7 @@
 -- The functions of a file, as its words are: which instructions a function reaches, which functions it calls,
 -- and how deep its stack goes. (RISC-V unprivileged specification, unconditional jumps; RISC-V psABI, ILP32.)
-use Rattle.std.specs.Prelude.{◌≡◌, ◌↔◌, ◌⊎◌, ◌+◌, ◌-◌, ◌*◌, ◌/◌, ◌%◌, ◌^◌, ◌<◌, ◌≤◌, ◌==◌, ◌&&◌, not, nat_le, ℕ, suc, ℤ, pos, negsuc, Bool, false, if◌then◌else◌, List, [], ◌∷◌, Contains, sum_by, Option, Some, None, IsSome, option_and_then}
+use Rattle.std.specs.Prelude.{◌≡◌, ◌↔◌, ◌⊎◌, ◌+◌, ◌-◌, ◌*◌, ◌/◌, ◌%◌, ◌^◌, ◌<◌, ◌≤◌, ◌==◌, ◌&&◌, not, nat_le, ℕ, zero, suc, ℤ, pos, negsuc, Bool, false, if◌then◌else◌, List, [], ◌∷◌, flat_map, Contains, sum_by, Option, Some, None, IsSome, option_and_then}
+use Rattle.std.specs.Option.{option_or}
 use Rattle.std.specs.List.Sorted.{IsStrictlyIncreasing}
 use Rattle.byteorder.specs.Endian.{little_number}
 use Rattle.rv_instr.specs.declared.Instr.{Instr}
@@ -12,6 +13,7 @@ use Rattle.memory_spec.specs.Memory.{Memory, byte_at}
 use Rattle.memory_spec.specs.Zones.{zone_from, InZone}
 use Rattle.rv_machine_spec.specs.Machine.{past}
 use Rattle.elf_read_spec.specs.Image.{Image, fixed_byte, size_at}
+use Rattle.code_reach_spec.specs.RunUp.{Bound, is_straight, looked_up}
 use Rattle.code_reach_spec.specs.declared.CodeKind.{CodeKind}
 use Rattle.code_reach_spec.specs.declared.CodeKind.TheVariants.{Empty, Writable, Misplaced}
 
@@ -53,6 +55,73 @@ pub record HasCode (image : Image) (entry size : ℕ) : Type 0 where
   pub entry_aligned : entry % 4 ≡ 0
   pub size_aligned : size % 4 ≡ 0
 
+-- ---- jumps by a table
+
+-- so many instructions from an address on, if each is straight
+abbrev pub straight_on : Option Instr → Option (List Instr) → Option (List Instr)
+straight_on (Some i) (Some rest) = if is_straight i then Some (i ∷ rest) else None
+straight_on i rest = None
+
+unfoldable pub straight : Image → (address count : ℕ) → Option (List Instr)
+straight image address zero = Some []
+straight image address (suc count) = straight_on (instr_at image address) (straight image (address + 4) count)
+
+abbrev pub words_on : Option ℕ → Option (List ℕ) → Option (List ℕ)
+words_on (Some w) (Some rest) = Some (w ∷ rest)
+words_on w rest = None
+
+-- so many words from an address on, if their bytes are fixed
+unfoldable pub words_from : Image → (address count : ℕ) → Option (List ℕ)
+words_from image address zero = Some []
+words_from image address (suc count) = words_on (word_at image address) (words_from image (address + 4) count)
+
+-- a jump by a table: how many words before it are its run-up; the branch that bounds the index; and the words of the
+-- table, lowest first
+pub record TableJump : Type 0 where
+  pub before : ℕ
+  pub branch : ℕ
+  pub targets : List ℕ
+
+-- the greatest number of targets
+abbrev pub most_targets : ℕ
+most_targets = 1024
+
+abbrev pub jump_with : (before : ℕ) → Bound → Option (List ℕ) → Option TableJump
+jump_with before bound None = None
+jump_with before bound (Some targets) = Some (record { before = before; branch = bound.branch; targets = targets })
+
+-- the table begins at a multiple of 4, has 1 to 1024 words, ends at 2^32 at the latest, and its words are fixed
+abbrev pub jump_by : Image → (before : ℕ) → Option (ℕ × Bound) → Option TableJump
+jump_by image before None = None
+jump_by image before (Some (first, bound)) =
+    if (first % 4 == 0) && (nat_le 1 bound.count && (nat_le bound.count most_targets && nat_le (first + 4 * bound.count) (2 ^ 32)))
+    then jump_with before bound (words_from image first bound.count)
+    else None
+
+-- the jump by the register r after straight code, of which the first word is at `start`, if that is a run-up to it
+abbrev pub jump_after : Image → (r start before : ℕ) → Option (List Instr) → Option TableJump
+jump_after image r start before None = None
+jump_after image r start before (Some instructions) = jump_by image before (looked_up r start instructions)
+
+-- by so many words before it
+abbrev pub jump_from : Image → (r address before : ℕ) → Option TableJump
+jump_from image r address before = jump_after image r (address - 4 * before) before (straight image (address - 4 * before) before)
+
+-- the jump by the register r at an address, by the shortest run-up of at most so many words
+unfoldable pub table_jump : Image → (r address most : ℕ) → Option TableJump
+table_jump image r address zero = None
+table_jump image r address (suc most) = option_or (table_jump image r address most) (jump_from image r address (suc most))
+
+abbrev pub is_zero : ℤ → Bool
+is_zero (pos n) = n == 0
+is_zero (negsuc n) = false
+
+-- JALR to x0 of a register, as it is, that is no return
+abbrev pub table_at : Image → (entry address : ℕ) → Instr → Option TableJump
+table_at image entry address (Jalr rd base offset) =
+    if (rd == 0) && not (base == 1) && is_zero offset then table_jump image base address ((address - entry) / 4) else None
+table_at image entry address other = None
+
 -- where control goes after an instruction
 pub data Flow : Type 0 where
   -- to the next instruction
@@ -67,6 +136,8 @@ pub data Flow : Type 0 where
   Links : (target : ℕ) → Flow
   -- to the return address
   Returns : Flow
+  -- to one of the words of a table
+  Switches : (jump : TableJump) → Flow
   -- to no address that the file determines
   Stops : Flow
 
@@ -81,10 +152,6 @@ pair_target (Some (Auipc register imm)) address rd base offset =
     then Some (target_of (past (address - 4) (imm * 2 ^ 12)) offset / 2 * 2)
     else None
 pair_target before address rd base offset = None
-
-abbrev pub is_zero : ℤ → Bool
-is_zero (pos n) = n == 0
-is_zero (negsuc n) = false
 
 abbrev pub flow_of_pair : Option ℕ → (rd : ℕ) → Flow
 flow_of_pair None rd = Stops
@@ -111,13 +178,26 @@ flow_of before address (Fence rd source bits) = Falls
 flow_of before address Ecall = Stops
 flow_of before address Ebreak = Stops
 
+-- a jump by a table is one to no address that is known otherwise
+abbrev pub with_table : Option TableJump → Flow → Flow
+with_table None flow = flow
+with_table (Some jump) Falls = Falls
+with_table (Some jump) (Branches target) = Branches target
+with_table (Some jump) (Jumps target) = Jumps target
+with_table (Some jump) (Calls target) = Calls target
+with_table (Some jump) (Links target) = Links target
+with_table (Some jump) Returns = Returns
+with_table (Some jump) (Switches other) = Switches other
+with_table (Some jump) Stops = Switches jump
+
 -- the instruction before the one at an address, in the function at an entry: before the entry there is none
 abbrev pub instr_before : Image → (entry address : ℕ) → Option Instr
 instr_before image entry address = if nat_le (entry + 4) address then instr_at image (address - 4) else None
 
 -- the flow of the instruction at an address of the function at an entry
 unfoldable pub flow_at : Image → (entry address : ℕ) → Option Flow
-flow_at image entry address = option_and_then (λ i. Some (flow_of (instr_before image entry address) address i)) (instr_at image address)
+flow_at image entry address =
+    option_and_then (λ i. Some (with_table (table_at image entry address i) (flow_of (instr_before image entry address) address i))) (instr_at image address)
 
 -- a target at no multiple of 4 traps
 abbrev pub aligned : ℕ → List ℕ
@@ -131,6 +211,7 @@ nexts_of address (Jumps target) = aligned target
 nexts_of address (Calls target) = (address + 4) ∷ []
 nexts_of address (Links target) = aligned target
 nexts_of address Returns = []
+nexts_of address (Switches jump) = flat_map aligned jump.targets
 nexts_of address Stops = []
 
 -- the addresses that are reached from the entry inside the range

@@ -1,16 +1,16 @@
 -- What is wrong with the code of functions: each kind, exactly where, and which of several faults is the first.
-use Rattle.std.specs.Prelude.{◌≡◌, ◌+◌, ◌<◌, ◌≤◌, ℕ, Bool, true, false, List, [], ◌∷◌, Contains, Some, None, IsSome}
+use Rattle.std.specs.Prelude.{◌≡◌, ◌≢◌, ◌+◌, ◌-◌, ◌*◌, ◌%◌, ◌<◌, ◌≤◌, ℕ, Bool, true, false, List, [], ◌∷◌, Contains, Some, None, IsSome}
 use Rattle.rv_instr.specs.declared.Instr.{Instr}
 use Rattle.rv_instr.specs.declared.Instr.TheVariants.{Jalr}
 use Rattle.memory_spec.specs.Zones.{zone_from, ZonesMeet}
 use Rattle.elf_read_spec.specs.Image.{Image, size_at}
 use Rattle.code_reach_spec.specs.declared.CodeKind.{CodeKind}
 use Rattle.code_reach_spec.specs.declared.CodeKind.TheVariants.{NoFunction, Ambiguous, Empty, Writable, Misplaced, Undecoded, Indirect, Leaves, Overlap}
-use Rattle.code_reach_spec.specs.Code.{instr_at, flow_at, InRange, IsRangeFault, Flow, Falls, Branches, Jumps, Calls, Links, Returns, Stops, IsReachable, Reaches}
+use Rattle.code_reach_spec.specs.Code.{instr_at, flow_at, InRange, IsRangeFault, Flow, Falls, Branches, Jumps, Calls, Links, Returns, Stops, Switches, TableJump, IsReachable, Reaches}
 
 -- ---- the targets of a function
 
--- where a branch, a jump or a link goes, as it stands. The target of a call is none of these
+-- where a branch, a jump, a link or a jump by a table goes, as it stands. The target of a call is none of these
 abbrev pub targets_of : Flow → List ℕ
 targets_of Falls = []
 targets_of (Branches target) = target ∷ []
@@ -18,6 +18,7 @@ targets_of (Jumps target) = target ∷ []
 targets_of (Calls target) = []
 targets_of (Links target) = target ∷ []
 targets_of Returns = []
+targets_of (Switches jump) = jump.targets
 targets_of Stops = []
 
 -- the targets of the instructions that the function reaches
@@ -31,7 +32,7 @@ abbrev pub is_jalr : Instr → Bool
 is_jalr (Jalr rd base offset) = true
 is_jalr i = false
 
--- a JALR that is no return and no AUIPC pair, or a JAL that keeps the return address in a register other than x1.
+-- a JALR that is no return, no AUIPC pair and no jump by a table, or a JAL that keeps the return address in a register other than x1.
 -- Both words of a pair are in the function, so a JALR at its entry is none
 abbrev pub is_indirect : Instr → Flow → Bool
 is_indirect i Falls = false
@@ -40,6 +41,7 @@ is_indirect i (Jumps target) = false
 is_indirect i (Calls target) = false
 is_indirect i (Links target) = true
 is_indirect i Returns = false
+is_indirect i (Switches jump) = false
 is_indirect i Stops = is_jalr i
 
 -- the JALR of an AUIPC pair
@@ -50,9 +52,17 @@ is_pair i (Jumps target) = is_jalr i
 is_pair i (Calls target) = is_jalr i
 is_pair i (Links target) = false
 is_pair i Returns = false
+is_pair i (Switches jump) = false
 is_pair i Stops = false
 
--- where control goes by falling through, by a branch or by a jump, which is to lie in the range. A call comes back to
+-- a jump whose address is known by the words before it can be come to without them: the JALR of a pair, or a word of
+-- a run-up after its first one, is a target
+pub data IsEntered (IsReachedTarget : ℕ → Type 0) (address : ℕ) (i : Instr) : Flow → Type 0 where
+  at_jump : (flow : Flow) → is_pair i flow ≡ true → IsReachedTarget address → IsEntered IsReachedTarget address i flow
+  in_run_up : (jump : TableJump) (back : ℕ) → back < jump.before → IsReachedTarget (address - 4 * back)
+      → IsEntered IsReachedTarget address i (Switches jump)
+
+-- where control goes by falling through, by a branch, by a jump or by a table, which is to lie in the range. A call comes back to
 -- the next instruction, which may lie outside
 abbrev pub goes_to : ℕ → Flow → List ℕ
 goes_to address Falls = (address + 4) ∷ []
@@ -61,6 +71,7 @@ goes_to address (Jumps target) = target ∷ []
 goes_to address (Calls target) = []
 goes_to address (Links target) = []
 goes_to address Returns = []
+goes_to address (Switches jump) = jump.targets
 goes_to address Stops = []
 
 -- a jump to the entry of a function: out of the range it is a tail call. A branch is none
@@ -78,13 +89,16 @@ pub data IsInstructionFault (image : Image) (entry size : ℕ) (IsReachedTarget 
   -- it goes to an address that the file doesn't determine, or keeps the return address elsewhere than in x1
   indirect : (i : Instr) (flow : Flow) → instr_at image address ≡ Some i → flow_at image entry address ≡ Some flow
       → is_indirect i flow ≡ true → IsInstructionFault image entry size IsReachedTarget address Indirect
-  -- the JALR of a pair can be come to without its AUIPC
-  without_auipc : (i : Instr) (flow : Flow) → instr_at image address ≡ Some i → flow_at image entry address ≡ Some flow
-      → is_pair i flow ≡ true → IsReachedTarget address → IsInstructionFault image entry size IsReachedTarget address Indirect
+  -- it goes to an address that the file determines by the words before it, and can be come to without them
+  entered : (i : Instr) (flow : Flow) → instr_at image address ≡ Some i → flow_at image entry address ≡ Some flow
+      → IsEntered IsReachedTarget address i flow → IsInstructionFault image entry size IsReachedTarget address Indirect
   -- it goes out of the range, and not by a tail call
   leaves : (flow : Flow) (target : ℕ) → flow_at image entry address ≡ Some flow → Contains (goes_to address flow) target
       → (InRange entry size target → ⊥) → (IsJumpToEntry image flow target → ⊥)
       → IsInstructionFault image entry size IsReachedTarget address Leaves
+  -- a word of its table is no multiple of 4
+  misaligned : (jump : TableJump) (target : ℕ) → flow_at image entry address ≡ Some (Switches jump) → Contains jump.targets target
+      → target % 4 ≢ 0 → IsInstructionFault image entry size IsReachedTarget address Leaves
 
 -- what is wrong with the function at an entry, so many bytes long, and at which address: with its range, and then it
 -- has no instructions, or with an instruction that is reached

@@ -1,3 +1,4 @@
 pub mod Code
 pub mod FaultAt
 pub mod Faults
+pub mod RunUp

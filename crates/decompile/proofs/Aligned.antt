@@ -1,7 +1,7 @@
 -- Where an instruction calls, if that is a multiple of 4.
 use Rattle.std.proofs.Common.{◌≡◌, ℕ, ◌%◌, ◌==◌, Bool, true, false, cond, refl, Some, None}
 use Rattle.std.specs.Prelude.{◌&&◌, not, option_and_then}
-use Rattle.code_reach_spec.specs.Code.{Flow, Falls, Branches, Jumps, Calls, Links, Returns, Stops}
+use Rattle.code_reach_spec.specs.Code.{Flow, Falls, Branches, Jumps, Calls, Links, Returns, Switches, Stops}
 use Rattle.code_reach_spec.specs.FaultAt.{in_range}
 use Rattle.code_reach.specs.Flows.{called_by}
 use Rattle.decompile_spec.specs.Blocks.{callee_of}
@@ -27,4 +27,5 @@ callee_aligned entry size (Jumps target) = by (in_range entry size target)
 callee_aligned entry size (Calls target) = refl
 callee_aligned entry size (Links target) = refl
 callee_aligned entry size Returns = refl
+callee_aligned entry size (Switches jump) = refl
 callee_aligned entry size Stops = refl

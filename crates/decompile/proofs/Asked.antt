@@ -21,11 +21,13 @@ asks-push f address index (t ∷ tests) test =
     (rest ∙ ap (λ (n : ℕ). asks f address (index + 1) tests ++ ask f address n test ∷ []) same)
 
 -- the tests before a node
-pub chain-asks : (f : Setting) (address index : ℕ) (tests : List Term) (node : Node) → chain f address index tests (Does node) ≡ asks f address index tests ++ node ∷ []
+pub chain-asks : (f : Setting) (address index : ℕ) (tests : List Term) (node : Node) (further : List Node)
+    → chain f address index tests (Does node further) ≡ asks f address index tests ++ node ∷ further
 unfolding chain asks
-chain-asks f address index [] node = refl
-chain-asks f address index (test ∷ []) node = refl
-chain-asks f address index (test ∷ t ∷ tests) node = ap (λ (nodes : List Node). ask f address (index + 1) test ∷ nodes) (chain-asks f address (index + 1) (t ∷ tests) node)
+chain-asks f address index [] node further = refl
+chain-asks f address index (test ∷ []) node further = refl
+chain-asks f address index (test ∷ t ∷ tests) node further =
+    ap (λ (nodes : List Node). ask f address (index + 1) test ∷ nodes) (chain-asks f address (index + 1) (t ∷ tests) node further)
 
 -- nodes that are added in two parts
 pub with-with : (g : Graph) (first second : List Node) → with_nodes (with_nodes g first) second ≡ with_nodes g (first ++ second)

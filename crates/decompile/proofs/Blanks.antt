@@ -1,16 +1,17 @@
 -- A graph has the addresses of the runs of fixed bytes, and not the bytes.
-use Rattle.std.proofs.Common.{◌≡◌, ◌∙◌, ℕ, ◌+◌, ◌-◌, refl, ap, List, [], ◌∷◌, ◌++◌, length, map, Option}
+use Rattle.std.proofs.Common.{◌≡◌, ◌∙◌, ℕ, ◌+◌, ◌-◌, Bool, true, false, refl, ap, List, [], ◌∷◌, ◌++◌, length, map, Option}
 use Rattle.std.proofs.lemmas.List.{length-replicate}
 use Rattle.rv_instr.specs.declared.Instr.{Instr}
 use Rattle.rv_instr.specs.declared.Instr.TheVariants as instr
 use Rattle.memory_spec.specs.Runs.{Run}
-use Rattle.code_reach_spec.specs.Code.{Flow, Falls, Branches, Jumps, Calls, Links, Returns, Stops}
-use Rattle.term_core_spec.specs.Term.{Term, or_term, less}
+use Rattle.code_reach_spec.specs.Code.{Flow, Falls, Branches, Jumps, Calls, Links, Returns, Switches, Stops}
+use Rattle.term_core_spec.specs.Term.{Term, open_term, or_term, equal, less}
 use Rattle.graph_core_spec.specs.declared.Next.{Next}
 use Rattle.graph_core_spec.specs.declared.Next.TheVariants as next
-use Rattle.graph_core_spec.specs.Graph.{Node, Basic, Graph}
+use Rattle.graph_core_spec.specs.Graph.{Node, Basic, Cond, Graph}
+use Rattle.decompile_spec.specs.State.{table_index}
 use Rattle.decompile_spec.specs.InstructionTerms.{number, avoids, access_tests, address, aligned_for, last_written}
-use Rattle.decompile_spec.specs.Blocks.{Of, Setting, Ending, Does, Goes, onward, toward, chain, tests_of, ending_of, nodes_at, landing_of}
+use Rattle.decompile_spec.specs.Blocks.{Of, Setting, Ending, Does, Goes, onward, toward, chain, tests_of, branching, next_test, table_tests, does_all, ending_of, nodes_at, landing_of}
 use Rattle.decompile_laws.specs.Layout.{Item, block, blocks, laid, landing_node}
 use Rattle.decompile_accesses.specs.Runs.{blanked}
 
@@ -49,26 +50,44 @@ module _ (f : Setting) where
   same_tests i (Calls target) = refl
   same_tests i (Links target) = refl
   same_tests i Returns = refl
+  same_tests i (Switches jump) = refl
   same_tests i Stops = refl
 
-  same_ending : (place : ℕ) (i : Instr) (flow : Flow) → ending_of blank_setting place i flow ≡ ending_of f place i flow
+  same_branching : (place : ℕ) (keeps : Bool) (i : Instr) (target : ℕ) → branching blank_setting place keeps i target ≡ branching f place keeps i target
+  unfolding toward
+  same_branching place false i target = refl
+  same_branching place true i target = refl
+
+  same_next : (place n : ℕ) (targets : List ℕ) → next_test blank_setting place n targets ≡ next_test f place n targets
+  same_next place n [] = refl
+  same_next place n (target ∷ rest) = refl
+
+  same_table : (place n : ℕ) (targets : List ℕ) → table_tests blank_setting place n targets ≡ table_tests f place n targets
+  unfolding table_tests toward
+  same_table place n [] = refl
+  same_table place n (target ∷ rest) =
+      ap (λ (to : Next). Cond (equal (open_term table_index) (number n)) (toward f target) to ∷ table_tests blank_setting place (n + 1) rest) (same_next place (n + 1) rest)
+      ∙ ap (λ (nodes : List Node). Cond (equal (open_term table_index) (number n)) (toward f target) (next_test f place (n + 1) rest) ∷ nodes) (same_table place (n + 1) rest)
+
+  same_ending : (place : ℕ) (keeps : Bool) (i : Instr) (flow : Flow) → ending_of blank_setting place keeps i flow ≡ ending_of f place keeps i flow
   unfolding ending_of toward
-  same_ending place i Falls = refl
-  same_ending place i (Branches target) = refl
-  same_ending place i (Jumps target) = refl
-  same_ending place i (Calls target) = refl
-  same_ending place i (Links target) = refl
-  same_ending place i Returns = refl
-  same_ending place i Stops = refl
+  same_ending place keeps i Falls = refl
+  same_ending place keeps i (Branches target) = same_branching place keeps i target
+  same_ending place keeps i (Jumps target) = refl
+  same_ending place keeps i (Calls target) = refl
+  same_ending place keeps i (Links target) = refl
+  same_ending place keeps i Returns = refl
+  same_ending place keeps i (Switches jump) = ap does_all (same_table place 0 jump.targets)
+  same_ending place keeps i Stops = refl
 
   same_onward : (place index : ℕ) (tests : List Term) (ending : Ending) → onward blank_setting place index tests ending ≡ onward f place index tests ending
-  same_onward place index [] (Does node) = refl
+  same_onward place index [] (Does node further) = refl
   same_onward place index [] (Goes to) = refl
   same_onward place index (test ∷ tests) ending = refl
 
   same_chain : (place index : ℕ) (tests : List Term) (ending : Ending) → chain blank_setting place index tests ending ≡ chain f place index tests ending
   unfolding chain
-  same_chain place index [] (Does node) = refl
+  same_chain place index [] (Does node further) = refl
   same_chain place index [] (Goes to) = refl
   same_chain place index (test ∷ tests) ending =
       let to : onward blank_setting place (index + 1) tests ending ≡ onward f place (index + 1) tests ending = same_onward place (index + 1) tests ending in
@@ -83,15 +102,16 @@ module _ (f : Setting) where
   same_landing place (Calls target) = refl
   same_landing place (Links target) = refl
   same_landing place Returns = refl
+  same_landing place (Switches jump) = refl
   same_landing place Stops = refl
 
   same_block : (item : Item) → block blank_setting item ≡ block f item
   unfolding nodes_at
   same_block item =
-      ap (λ (tests : List Term). chain blank_setting item.address 0 tests (ending_of blank_setting item.address item.instruction item.flow) ++ landing_node (landing_of blank_setting item.address item.flow)) (same_tests item.instruction item.flow)
-      ∙ ap (λ (ending : Ending). chain blank_setting item.address 0 (tests_of f item.instruction item.flow) ending ++ landing_node (landing_of blank_setting item.address item.flow)) (same_ending item.address item.instruction item.flow)
-      ∙ ap (λ (nodes : List Node). nodes ++ landing_node (landing_of blank_setting item.address item.flow)) (same_chain item.address 0 (tests_of f item.instruction item.flow) (ending_of f item.address item.instruction item.flow))
-      ∙ ap (λ (o : Option Next). chain f item.address 0 (tests_of f item.instruction item.flow) (ending_of f item.address item.instruction item.flow) ++ landing_node o) (same_landing item.address item.flow)
+      ap (λ (tests : List Term). chain blank_setting item.address 0 tests (ending_of blank_setting item.address item.keeps item.instruction item.flow) ++ landing_node (landing_of blank_setting item.address item.flow)) (same_tests item.instruction item.flow)
+      ∙ ap (λ (ending : Ending). chain blank_setting item.address 0 (tests_of f item.instruction item.flow) ending ++ landing_node (landing_of blank_setting item.address item.flow)) (same_ending item.address item.keeps item.instruction item.flow)
+      ∙ ap (λ (nodes : List Node). nodes ++ landing_node (landing_of blank_setting item.address item.flow)) (same_chain item.address 0 (tests_of f item.instruction item.flow) (ending_of f item.address item.keeps item.instruction item.flow))
+      ∙ ap (λ (o : Option Next). chain f item.address 0 (tests_of f item.instruction item.flow) (ending_of f item.address item.keeps item.instruction item.flow) ++ landing_node o) (same_landing item.address item.flow)
 
   same_blocks : (items : List Item) → blocks blank_setting items ≡ blocks f items
   same_blocks [] = refl

@@ -11,25 +11,18 @@ use Rattle.code_reach_spec.specs.Code.{instr_at, flow_at, IsReachable}
 use Rattle.code_reach_spec.specs.Code.{word_at}
 use Rattle.code_reach.specs.Found.{IsCode}
 use Rattle.code_reach.specs.Flows.{flow_seen}
-use Rattle.decompile_laws.proofs.Reached.{has_instruction, has_flow, inside_range, whole_word}
+use Rattle.decompile_laws.proofs.Reached.{has_instruction, inside_range, whole_word}
+use Rattle.decompile_laws.proofs.Switching.{has_flow}
 use Rattle.decompile_laws.specs.Layout as spec
 use Rattle.decompile.specs.declared.items.Item.{Item}
-use Rattle.decompile.specs.Items.{item_of, AreInstructions}
-
--- an instruction is that of a word with its address, and its flow that of the instruction there
-pub record Decodes (image : Image) (entry : ℕ) (w : ℕ × ℕ) (item : Item) : Type 0 where
-  pub address_is : item.address ≡ w.0
-  pub form_is : instr w.1 ≡ Some item.instruction
-  pub flow_is : flow_at image entry w.0 ≡ Some (flow_seen item.flow)
-
-abbrev pub Decoded : Image → (entry : ℕ) → List (ℕ × ℕ) → List Item → Type 0
-Decoded image entry words items = AllZip (Decodes image entry) words items
+use Rattle.decompile.specs.Items.{item_of, Decodes, Decoded, AreInstructions}
+use Rattle.decompile_spec.specs.CodeGraph.{IsKept}
 
 module _ (image : Image) (entry : ℕ) where
-  abbrev IsOf : ℕ × ℕ → Item → Type 0
+  abbrev pub IsOf : ℕ × ℕ → Item → Type 0
   IsOf w item = Decodes image entry w item
 
-  abbrev AreOf : List (ℕ × ℕ) → List Item → Type 0
+  abbrev pub AreOf : List (ℕ × ℕ) → List Item → Type 0
   AreOf words items = Decoded image entry words items
 
   zip_push : (words : List (ℕ × ℕ)) (items : List Item) (w : ℕ × ℕ) (item : Item) → AreOf words items → IsOf w item → AreOf (words ++ w ∷ []) (items ++ item ∷ [])
@@ -46,12 +39,13 @@ module _ (image : Image) (entry : ℕ) where
 
   -- ---- words and instructions at one place
 
-  record Found (words : List (ℕ × ℕ)) (items : List Item) : Type 0 where
-    word : ℕ × ℕ
-    item : Item
-    word_in : Contains words word
-    item_in : Contains (map item_of items) (item_of item)
-    decodes : IsOf word item
+  pub record Found (words : List (ℕ × ℕ)) (items : List Item) : Type 0 where
+    pub word : ℕ × ℕ
+    pub item : Item
+    pub word_in : Contains words word
+    pub item_in : Contains (map (item_of image) items) (item_of image item)
+    pub own_in : Contains items item
+    pub decodes : IsOf word item
 
   later : (w : ℕ × ℕ) (words : List (ℕ × ℕ)) (x : Item) (items : List Item) → Found words items → Found (w ∷ words) (x ∷ items)
   later w words x items found = record {
@@ -59,13 +53,14 @@ module _ (image : Image) (entry : ℕ) where
     item = found.item;
     word_in = (suc found.word_in.0, omega (arith, found.word_in.1), found.word_in.2);
     item_in = (suc found.item_in.0, omega (arith, found.item_in.1), found.item_in.2);
+    own_in = (suc found.own_in.0, omega (arith, found.own_in.1), found.own_in.2);
     decodes = found.decodes;
   }
 
   first : (w : ℕ × ℕ) (words : List (ℕ × ℕ)) (x : Item) (items : List Item) → IsOf w x → Found (w ∷ words) (x ∷ items)
-  first w words x items is = record { word = w; item = x; word_in = (0, omega arith, refl); item_in = (0, omega arith, refl); decodes = is }
+  first w words x items is = record { word = w; item = x; word_in = (0, omega arith, refl); item_in = (0, omega arith, refl); own_in = (0, omega arith, refl); decodes = is }
 
-  of_item : (words : List (ℕ × ℕ)) (items : List Item) (item : spec.Item) → AreOf words items → Contains (map item_of items) item → (found : Found words items) × (item_of found.item ≡ item)
+  pub of_item : (words : List (ℕ × ℕ)) (items : List Item) (item : spec.Item) → AreOf words items → Contains (map (item_of image) items) item → (found : Found words items) × (item_of image found.item ≡ item)
   unfolding first later
   of_item [] [] item zip (k, below, is) = absurd (omega arith)
   of_item [] (x ∷ items) item zip among = absurd zip
@@ -75,7 +70,7 @@ module _ (image : Image) (entry : ℕ) where
       let found = of_item words items item zip.1 (k, omega arith, is) in
       (later w words x items found.0, found.1)
 
-  of_address : (words : List (ℕ × ℕ)) (items : List Item) (address : ℕ) → AreOf words items → Contains (map (λ (w : ℕ × ℕ). w.0) words) address → (found : Found words items) × (found.word.0 ≡ address)
+  pub of_address : (words : List (ℕ × ℕ)) (items : List Item) (address : ℕ) → AreOf words items → Contains (map (λ (w : ℕ × ℕ). w.0) words) address → (found : Found words items) × (found.word.0 ≡ address)
   unfolding first later
   of_address [] [] address zip (k, below, is) = absurd (omega arith)
   of_address [] (x ∷ items) address zip among = absurd zip
@@ -85,7 +80,7 @@ module _ (image : Image) (entry : ℕ) where
       let found = of_address words items address zip.1 (k, omega arith, is) in
       (later w words x items found.0, found.1)
 
-  same_addresses : (words : List (ℕ × ℕ)) (items : List Item) → AreOf words items → map (λ (item : spec.Item). item.address) (map item_of items) ≡ map (λ (w : ℕ × ℕ). w.0) words
+  same_addresses : (words : List (ℕ × ℕ)) (items : List Item) → AreOf words items → map (λ (item : spec.Item). item.address) (map (item_of image) items) ≡ map (λ (w : ℕ × ℕ). w.0) words
   same_addresses [] [] zip = refl
   same_addresses [] (x ∷ items) zip = absurd zip
   same_addresses (w ∷ words) [] zip = absurd zip
@@ -106,7 +101,7 @@ module _ (image : Image) (entry : ℕ) (words : List (ℕ × ℕ)) (is : IsCode 
       let at = key_in xs w (k, omega arith, e) in
       (suc at.0, omega (arith, at.1), at.2)
 
-  reached : (w : ℕ × ℕ) → Contains words w → IsReachable image entry is.size w.0
+  pub reached : (w : ℕ × ℕ) → Contains words w → IsReachable image entry is.size w.0
   reached w among = (is.places.exactly w.0).0 (key_in words w among)
 
   decoded : (w : ℕ × ℕ) → Contains words w → instr_at image w.0 ≡ instr w.1
@@ -134,8 +129,8 @@ module _ (image : Image) (entry : ℕ) (words : List (ℕ × ℕ)) (is : IsCode 
       rw some refl
 
   module _ (items : List Item) (zip : Decoded image entry words items) where
-    at_item : (P : spec.Item → Type 0) → ((w : ℕ × ℕ) (item : Item) → Contains words w → Decodes image entry w item → P (item_of item))
-        → (item : spec.Item) → Contains (map item_of items) item → P item
+    at_item : (P : spec.Item → Type 0) → ((w : ℕ × ℕ) (item : Item) → Contains words w → Decodes image entry w item → P (item_of image item))
+        → (item : spec.Item) → Contains (map (item_of image) items) item → P item
     at_item P each item among =
         let found = of_item image entry words items item zip among in
         subst P found.1 (each found.0.word found.0.item found.0.word_in found.0.decodes)
@@ -146,11 +141,12 @@ module _ (image : Image) (entry : ℕ) (words : List (ℕ × ℕ)) (is : IsCode 
     reached_there : (w : ℕ × ℕ) (item : Item) → Contains words w → Decodes image entry w item → IsReachable image entry is.size item.address
     reached_there w item among d = subst (IsReachable image entry is.size) (sym d.address_is) (reached w among)
 
-    flow_there : (w : ℕ × ℕ) (item : Item) → Contains words w → Decodes image entry w item → flow_at image entry item.address ≡ Some (flow_seen item.flow)
+    flow_there : (w : ℕ × ℕ) (item : Item) → Contains words w → Decodes image entry w item → flow_at image entry item.address ≡ Some (flow_seen image item.flow)
     flow_there w item among d = ap (flow_at image entry) d.address_is ∙ d.flow_is
 
-    pub are_instructions : AreInstructions image entry items
-    are_instructions = record {
+    -- if each keeps an index or not as it should
+    pub are_instructions : ((item : spec.Item) → Contains (map (item_of image) items) item → IsKept image entry is.size item.address item.keeps) → AreInstructions image entry items
+    are_instructions kept = record {
       size = is.size;
       size_is = is.size_is;
       sound = is.sound;
@@ -159,9 +155,10 @@ module _ (image : Image) (entry : ℕ) (words : List (ℕ × ℕ)) (is : IsCode 
         reached = at_item (λ (item : spec.Item). IsReachable image entry is.size item.address) reached_there;
         instructions = at_item (λ (item : spec.Item). instr_at image item.address ≡ Some item.instruction) form_there;
         flows = at_item (λ (item : spec.Item). flow_at image entry item.address ≡ Some item.flow) flow_there;
+        kept = kept;
         all =
             λ address there.
             let found = of_address image entry words items address zip ((is.places.exactly address).1 there) in
-            (item_of found.0.item, found.0.item_in, found.0.decodes.address_is ∙ found.1);
+            (item_of image found.0.item, found.0.item_in, found.0.decodes.address_is ∙ found.1);
       };
     }

@@ -6,7 +6,9 @@ mod Numbered
 mod Decoded
 mod Asked
 mod Parts
+mod Tabled
 mod Added
+mod Kept
 pub mod Searched
 mod Whole
 mod Counted

@@ -92,9 +92,9 @@ module _ (by : Counting) where
       let found = key_of_item (n + (further_nodes by x + 1)) rest item (k, omega arith, is) in
       (found.0, (suc found.1.0, omega (arith, found.1.1), found.1.2))
 
-pub same_keys : (items : List CodeItem) → map (λ (item : Item). item.address) (map item_of items) ≡ map (λ (item : CodeItem). item.address) items
-same_keys [] = refl
-same_keys (item ∷ items) = ap (λ (xs : List ℕ). item.address ∷ xs) (same_keys items)
+pub same_keys : (image : Image) (items : List CodeItem) → map (λ (item : Item). item.address) (map (item_of image) items) ≡ map (λ (item : CodeItem). item.address) items
+same_keys image [] = refl
+same_keys image (item ∷ items) = ap (λ (xs : List ℕ). item.address ∷ xs) (same_keys image items)
 
 -- one instruction more is numbered
 pub next_numbered : (by : Counting) (n next further : ℕ) (old new : List (ℕ × ℕ)) (item : Item) (rest all : List Item) → new ≡ insert_entry nat_eq old item.address n

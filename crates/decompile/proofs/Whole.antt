@@ -28,14 +28,14 @@ use Rattle.decompile.proofs.Numbered.{key, same_keys, keys-numbered, are_numbere
 
 -- ---- the instructions that were read
 
-pub rising_items : (items : List CodeItem) → IsStrictlyIncreasing (map (λ (item : Item). item.address) (map item_of items)) → IsStrictlyIncreasing (map (λ (item : CodeItem). item.address) items)
-rising_items items up = subst (λ (xs : List ℕ). IsStrictlyIncreasing xs) (same_keys items) up
+pub rising_items : (image : Image) (items : List CodeItem) → IsStrictlyIncreasing (map (λ (item : Item). item.address) (map (item_of image) items)) → IsStrictlyIncreasing (map (λ (item : CodeItem). item.address) items)
+rising_items image items up = subst (λ (xs : List ℕ). IsStrictlyIncreasing xs) (same_keys image items) up
 
 pub sized : (image : Image) (entry size : ℕ) (items : List CodeItem) → AreInstructions image entry items → size_at image entry ≡ Some size
-    → HasNoFault image entry size × AreItems image entry size (map item_of items)
+    → HasNoFault image entry size × AreItems image entry size (map (item_of image) items)
 sized image entry size items are size_is =
     let same : are.size ≡ size = same_Some are.size size (sym are.size_is ∙ size_is) in
-    (subst (HasNoFault image entry) same are.sound, subst (λ (n : ℕ). AreItems image entry n (map item_of items)) same are.are_items)
+    (subst (HasNoFault image entry) same are.sound, subst (λ (n : ℕ). AreItems image entry n (map (item_of image) items)) same are.are_items)
 
 pub in_space : (image : Image) (entry size : ℕ) → HasNoFault image entry size → entry + size ≤ 2 ^ 32
 in_space image entry size sound = (code_there image entry size sound).range_fixed.in_space

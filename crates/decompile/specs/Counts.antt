@@ -1,12 +1,12 @@
 -- How many nodes each instruction has, and the numbers of the first ones.
-use Rattle.std.specs.Prelude.{ℕ, ◌+◌, ◌%◌, ◌<◌, ◌≤◌, ◌==◌, if◌then◌else◌, List, [], ◌∷◌}
+use Rattle.std.specs.Prelude.{ℕ, ◌+◌, ◌-◌, ◌%◌, ◌<◌, ◌≤◌, ◌==◌, Bool, true, false, if◌then◌else◌, List, [], ◌∷◌, length}
 use Rattle.rv_instr.specs.declared.Instr.{Instr}
 use Rattle.rv_instr.specs.declared.Instr.TheVariants.{Load, Store}
 use Rattle.rv_instr.specs.declared.LoadKind.{LoadKind}
 use Rattle.rv_instr.specs.declared.LoadKind.TheVariants as load_kind
 use Rattle.rv_instr.specs.declared.StoreKind.{StoreKind}
 use Rattle.rv_instr.specs.declared.StoreKind.TheVariants as store_kind
-use Rattle.code_reach_spec.specs.Code.{Flow, Falls, Branches, Jumps, Calls, Links, Returns, Stops}
+use Rattle.code_reach_spec.specs.Code.{Flow, Falls, Branches, Jumps, Calls, Links, Returns, Switches, Stops}
 use Rattle.decompile_spec.specs.Blocks.{leaves_range}
 use Rattle.decompile_laws.specs.Layout.{Item}
 use Rattle.decompile.specs.declared.numbers.Counting.{Counting}
@@ -32,19 +32,21 @@ access_tests runs (Load kind rd base offset) = load_tests kind
 access_tests runs (Store kind base source offset) = alignments kind + runs
 access_tests runs other = 0
 
--- the tests before an access, the landing node after a call, and with that the test before a tail call
-abbrev pub further_by : Counting → Instr → Flow → ℕ
-further_by by i Falls = access_tests by.runs i
-further_by by i (Branches target) = 0
-further_by by i (Jumps target) = if leaves_range by.entry by.size target then 2 else 0
-further_by by i (Calls target) = if target % 4 == 0 then 1 else 0
-further_by by i (Links target) = 0
-further_by by i Returns = 0
-further_by by i Stops = 0
+-- the tests before an access, the node in which a branch keeps an index, the landing node after a call, with that the
+-- test before a tail call, and the tests of an index after the first one
+abbrev pub further_by : Counting → (keeps : Bool) → Instr → Flow → ℕ
+further_by by keeps i Falls = access_tests by.runs i
+further_by by keeps i (Branches target) = if keeps then 1 else 0
+further_by by keeps i (Jumps target) = if leaves_range by.entry by.size target then 2 else 0
+further_by by keeps i (Calls target) = if target % 4 == 0 then 1 else 0
+further_by by keeps i (Links target) = 0
+further_by by keeps i Returns = 0
+further_by by keeps i (Switches jump) = length jump.targets - 1
+further_by by keeps i Stops = 0
 
 -- how many nodes an instruction has beside one
 abbrev pub further_nodes : Counting → Item → ℕ
-further_nodes by item = further_by by item.instruction item.flow
+further_nodes by item = further_by by item.keeps item.instruction item.flow
 
 -- the addresses of instructions, each with the number of its first node, from n on
 abbrev pub numbered : Counting → (n : ℕ) → List Item → List (ℕ × ℕ)

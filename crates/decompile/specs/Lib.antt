@@ -5,3 +5,4 @@ pub mod Settings
 pub mod Callees
 pub mod Errors
 pub mod Built
+pub mod Tables

@@ -5,6 +5,8 @@ ghost use Rattle.rv_machine_spec.specs.Arithmetic.{of_immediate as of_immediate_
 ghost use Rattle.rv_machine_spec.specs.Arithmetic.{of_shift as of_shift_is};
 ghost use Rattle.graph_core.specs.Graphs.{binding_of, bindings_of, boxed_term};
 ghost use Rattle.decompile_spec.specs.State.{memory as memory_is};
+ghost use Rattle.decompile_spec.specs.State.{table_index as table_index_is};
+ghost use Rattle.decompile_spec.specs.Blocks.{bounded_by as bounded_by_is};
 ghost use Rattle.decompile_spec.specs.InstructionTerms as spec;
 ghost use Rattle.decompile_spec.specs.Blocks.{call_inputs as call_inputs_are};
 ghost use Rattle.decompile_spec.specs.Blocks.{tail_inputs as tail_inputs_are};
@@ -14,10 +16,12 @@ ghost use Rattle.decompile.specs.Built.{BuildsBindings};
 use attempt::attempt;
 use decompile_terms::{
     address, computed, entry_register, loaded, memory, number, operand, register, stored,
+    table_index,
 };
 use graph_core::Binding;
 use rv_instr::{
-    ArithmeticOperation, ImmediateOperation, Instr, LoadKind, Reg, ShiftOperation, StoreKind,
+    ArithmeticOperation, BranchTest, ImmediateOperation, Instr, LoadKind, Reg, ShiftOperation,
+    StoreKind,
 };
 use std::alloc::{AllocError, Global};
 use term_core::Term;
@@ -214,6 +218,39 @@ pub(crate) fn effects(
         } => computes_of(alloc, operation, rd, left, right),
         _ => Ok(Vec::new(alloc)),
     }
+}
+
+/// What a branch bounds where it falls through, which other instructions do not: 0.
+fn bounded_by(alloc: Global, instruction: &Instr) -> Result<Box<Term>, AllocError>
+    ensures { IfOk result (λ term. boxed_term term ≡ bounded_by_is instruction.now) }
+{
+    match *instruction {
+        Instr::Branch {
+            test,
+            left,
+            right,
+            ..
+        } => match test {
+            BranchTest::LessUnsigned => operand(alloc, right),
+            BranchTest::GreaterOrEqualUnsigned => operand(alloc, left),
+            BranchTest::Equal
+            | BranchTest::NotEqual
+            | BranchTest::Less
+            | BranchTest::GreaterOrEqual => number(alloc, 0),
+        },
+        _ => number(alloc, 0),
+    }
+}
+
+/// What a branch binds that keeps the index of a table.
+pub(crate) fn keeping(alloc: Global, instruction: &Instr) -> Result<Vec<Binding>, AllocError>
+    ensures { BuildsBindings result (record {
+      variable = table_index_is;
+      term = bounded_by_is instruction.now;
+    } ∷ []) }
+{
+    let term = attempt!(bounded_by(alloc, instruction));
+    bind(alloc, table_index(), term)
 }
 
 /// The registers but x0 and x1.

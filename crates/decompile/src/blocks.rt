@@ -1,25 +1,29 @@
 //! The nodes of an instruction.
 
-ghost use Rattle.std.specs.Prelude.{◌≡◌, ◌∷◌, [], ℕ, map, true, IfOk, OnOk};
+ghost use Rattle.std.specs.Prelude.{◌≡◌, ◌+◌, ◌*◌, ◌<◌, ◌∷◌, [], ℕ, map, true, IfOk, OnOk};
 ghost use Rattle.code_reach_spec.specs.Code.{Falls, Branches, Jumps, Calls, Links, Returns, Stops};
+ghost use Rattle.code_reach_spec.specs.Code.{Switches};
+ghost use Rattle.code_reach_tables.specs.Tables.{jump_seen, target_at};
 ghost use Rattle.graph_core_spec.specs.declared.Next.TheVariants as next;
 ghost use Rattle.graph_core_spec.specs.Graph.{Basic, Cond, with_nodes};
 ghost use Rattle.graph_core.specs.Graphs.{boxed_term, graph_of, node_of};
-ghost use Rattle.decompile_spec.specs.Blocks.{leaves};
+ghost use Rattle.decompile_spec.specs.Blocks.{leaves, toward};
 ghost use Rattle.decompile_spec.specs.InstructionTerms.{branch_test as branch_test_is};
 ghost use Rattle.decompile_spec.specs.InstructionTerms.{returns_home as returns_home_is};
 ghost use Rattle.decompile.specs.Built.{AddsBlock, AddsFlow};
+ghost use Rattle.decompile.specs.Tables as tables;
 ghost use Rattle.decompile.specs.Items.{item_of};
 ghost use Rattle.decompile.specs.Settings.{setting_of, asks};
 
-use crate::bindings::{call_inputs, effects, tail_inputs};
+use crate::bindings::{call_inputs, effects, keeping, tail_inputs};
 use crate::function::{Function, graph_number};
 use crate::items::Item;
 use crate::numbers::plus;
 use attempt::attempt;
-use code_reach::Flow;
+use code_reach::{Flow, TableJump, target};
 use decompile_accesses::access_tests;
-use decompile_terms::{branch_test, returns_home};
+use decompile_terms::{branch_test, is_index, returns_home};
+use elf_read::Image;
 use graph_core::{Graph, Node};
 use graph_core_spec::Next;
 use rv_instr::Instr;
@@ -105,6 +109,32 @@ impl Function<'_> {
         Ok(())
     }
 
+    /// Adds a branch that bounds the index of a table: its test, and the node in which the index is
+    /// kept, where it falls through.
+    fn add_keeping(
+        &self,
+        alloc: Global,
+        graph: &mut Graph,
+        item: &Item,
+        target: u32,
+    ) -> Result<(), AllocError>
+        requires { item.now.keeps ≡ true }
+        ensures { OnOk result (AddsFlow self.now graph.old graph.new item.now (Branches target)) }
+    {
+        let test = test_of(alloc, &item.instruction)?;
+        let on_true = self.toward(target);
+        let index = self.node(item.address, 1)?;
+        graph.add(Node::Cond {
+            test,
+            on_true,
+            on_false: Next::At(index),
+        })?;
+        let bindings = keeping(alloc, &item.instruction)?;
+        let next = self.onward(item.address);
+        graph.add(Node::Basic { bindings, next })?;
+        Ok(())
+    }
+
     /// Adds a branch.
     fn add_branch(
         &self,
@@ -115,6 +145,10 @@ impl Function<'_> {
     ) -> Result<(), AllocError>
         ensures { OnOk result (AddsFlow self.now graph.old graph.new item.now (Branches target)) }
     {
+        if item.keeps {
+            self.add_keeping(alloc, graph, item, target)?;
+            return Ok(());
+        }
         let test = test_of(alloc, &item.instruction)?;
         let on_true = self.toward(target);
         let on_false = self.onward(item.address);
@@ -207,6 +241,67 @@ impl Function<'_> {
         Ok(())
     }
 
+    /// Where the index of a table is no index up to this one: on to its next test; after the last
+    /// one, an error.
+    fn after_index(&self, address: u32, jump: TableJump, n: u32) -> Result<Next, AllocError>
+        requires { n < jump.count }
+        ensures { IfOk result (λ next. next ≡ tables.after_index (setting_of self.now) address jump
+            n) }
+    {
+        if n + 1 == jump.count {
+            return Ok(Next::Err);
+        }
+        let node = self.node(address, (n + 1) as usize)?;
+        Ok(Next::At(node))
+    }
+
+    /// Adds the test of an index of a table, which goes to the word at that index.
+    fn add_index(
+        &self,
+        alloc: Global,
+        image: &Image<'_>,
+        graph: &mut Graph,
+        address: u32,
+        jump: TableJump,
+        n: u32,
+    ) -> Result<(), AllocError>
+        requires { n < jump.count }
+        ensures { OnOk result (graph_of graph.new ≡ with_nodes (graph_of graph.old)
+            (tables.index_node (setting_of self.now) image.now address jump n ∷ [])) }
+    {
+        let test = is_index(alloc, n)?;
+        let on_true = self.toward(target(image, jump, n));
+        let on_false = self.after_index(address, jump, n)?;
+        graph.add(Node::Cond {
+            test,
+            on_true,
+            on_false,
+        })?;
+        Ok(())
+    }
+
+    /// Adds a jump by a table: a test for each index. Without words it is an error.
+    fn add_switch(
+        &self,
+        alloc: Global,
+        image: &Image<'_>,
+        graph: &mut Graph,
+        item: &Item,
+        jump: TableJump,
+    ) -> Result<(), AllocError>
+        ensures { OnOk result (AddsFlow self.now graph.old graph.new item.now
+            (Switches (jump_seen image.now jump))) }
+    {
+        if jump.count == 0 {
+            add_plain(alloc, graph, Next::Err)?;
+            return Ok(());
+        }
+        for n in 0..jump.count {
+            self.add_index(alloc, image, graph, item.address, jump, n)?;
+        }
+        Ok(())
+    }
+
     /// Adds an instruction that is an error.
     fn add_error(&self, alloc: Global, graph: &mut Graph, item: &Item) -> Result<(), AllocError>
         ensures links { (target : ℕ) → OnOk result (AddsFlow self.now graph.old graph.new item.now
@@ -221,10 +316,12 @@ impl Function<'_> {
     pub(crate) fn add_block(
         &self,
         alloc: Global,
+        image: &Image<'_>,
         graph: &mut Graph,
         item: &Item,
     ) -> Result<(), AllocError>
-        ensures { OnOk result (AddsBlock self.now graph.old graph.new (item_of item.now)) }
+        ensures { OnOk result (AddsBlock self.now graph.old graph.new
+            (item_of image.now item.now)) }
     {
         match item.flow {
             Flow::Falls => self.add_step(alloc, graph, item),
@@ -232,6 +329,7 @@ impl Function<'_> {
             Flow::Jumps(target) => self.add_jump(alloc, graph, item, target),
             Flow::Calls(target) => self.add_call(alloc, graph, item, target),
             Flow::Returns => self.add_return(alloc, graph, item),
+            Flow::Switches(jump) => self.add_switch(alloc, image, graph, item, jump),
             Flow::Links(_) | Flow::Stops => self.add_error(alloc, graph, item),
         }
     }

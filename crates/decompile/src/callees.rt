@@ -3,6 +3,7 @@
 ghost use Rattle.std.specs.Prelude.{◌≡◌, ◌↔◌, ◌%◌, ◌==◌, if◌then◌else◌, All, Contains, IsTrue};
 ghost use Rattle.std.specs.Prelude.{IfErr, OnOk, Some, None};
 ghost use Rattle.std.specs.List.Sorted.{IsStrictlyIncreasing};
+ghost use Rattle.elf_read_spec.specs.Image as elf;
 ghost use Rattle.decompile.specs.Callees as spec;
 
 use crate::error::GraphFault;
@@ -23,7 +24,7 @@ fn aligned(target: u32) -> Option<u32>
 
 /// The entry of the function that an instruction calls, or ends by, if it does.
 fn called(entry: u32, size: u32, item: &Item) -> Option<u32>
-    ensures { result ≡ spec.callee_of_item entry size item.now }
+    ensures { (image : elf.Image) → result ≡ spec.callee_of_item image entry size item.now }
 {
     match callee(entry, size, item.flow) {
         Some(target) => aligned(target),
@@ -50,8 +51,10 @@ fn check_callee(
     entries: &[u32],
 ) -> Result<(), Refusal<GraphFault>>
     requires { IsStrictlyIncreasing entries.now }
-    ensures listed { OnOk result (spec.IsListed entry size entries.now item.now) }
-    ensures refused { IfErr result (spec.IsUnlisted entry size entries.now item.now) }
+    ensures listed { (image : elf.Image) → OnOk result (spec.IsListed image entry size entries.now
+        item.now) }
+    ensures refused { (image : elf.Image) → IfErr result (spec.IsUnlisted image entry size
+        entries.now item.now) }
 {
     match called(entry, size, item) {
         Some(callee) => {
@@ -75,8 +78,10 @@ pub(crate) fn check_callees(
     entries: &[u32],
 ) -> Result<(), Refusal<GraphFault>>
     requires { IsStrictlyIncreasing entries.now }
-    ensures listed { OnOk result (All (spec.IsListed entry size entries.now) items.now) }
-    ensures refused { IfErr result (spec.IsFirstUnlisted entry size entries.now items.now) }
+    ensures listed { (image : elf.Image) → OnOk result (All (spec.IsListed image entry size
+        entries.now) items.now) }
+    ensures refused { (image : elf.Image) → IfErr result (spec.IsFirstUnlisted image entry size
+        entries.now items.now) }
 {
     for item in items {
         attempt!(check_callee(entry, size, item, entries));

@@ -45,10 +45,16 @@ impl Function<'_> {
 
     /// Adds to a graph without nodes those of some instructions: a landing node at the entry, and
     /// the nodes of each in order.
-    fn add_blocks(&self, alloc: Global, graph: &mut Graph, items: &[Item]) -> Result<(), AllocError>
+    fn add_blocks(
+        &self,
+        alloc: Global,
+        image: &Image<'_>,
+        graph: &mut Graph,
+        items: &[Item],
+    ) -> Result<(), AllocError>
         requires { seen graph.old ≡ empty }
         ensures { OnOk result (seen graph.new
-            ≡ laid (setting_of self.now) (map item_of items.now)) }
+            ≡ laid (setting_of self.now) (map (item_of image.now) items.now)) }
     {
         let first = self.node(self.entry, 0)?;
         graph.add(Node::Basic {
@@ -56,18 +62,18 @@ impl Function<'_> {
             next: Next::At(first),
         })?;
         for item in items {
-            self.add_block(alloc, graph, item)?;
+            self.add_block(alloc, image, graph, item)?;
         }
         Ok(())
     }
 
     /// The graph of some instructions.
-    fn graph(&self, alloc: Global, items: &[Item]) -> Result<Graph, AllocError>
+    fn graph(&self, alloc: Global, image: &Image<'_>, items: &[Item]) -> Result<Graph, AllocError>
         ensures { IfOk result (λ graph. seen graph
-            ≡ laid (setting_of self.now) (map item_of items.now)) }
+            ≡ laid (setting_of self.now) (map (item_of image.now) items.now)) }
     {
         let mut graph = Graph::new(alloc);
-        attempt!(self.add_blocks(alloc, &mut graph, items));
+        attempt!(self.add_blocks(alloc, image, &mut graph, items));
         Ok(graph)
     }
 }
@@ -84,7 +90,7 @@ fn listed_instructions(
     requires function { size_at image.now entry ≡ Some size }
     requires rising { IsStrictlyIncreasing entries.now }
     ensures found { IfOk result (λ items. AreInstructions image.now entry items.items
-        × All (IsListed entry size entries.now) items.items) }
+        × All (IsListed image.now entry size entries.now) items.items) }
     ensures fault { IfErr result (λ error. (maximum : ℕ)
         → IsGraphError image.now entry entries.now maximum error) }
 {
@@ -137,7 +143,7 @@ pub fn decompile_within(
         entries,
         firsts: &firsts,
     };
-    let graph = function.graph(alloc, items.as_slice())?;
+    let graph = function.graph(alloc, image, items.as_slice())?;
     Ok(CodeGraph { graph, firsts })
 }
 

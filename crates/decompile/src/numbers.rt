@@ -3,6 +3,7 @@
 ghost use Rattle.std.specs.Prelude.{◌≡◌, ◌+◌, ◌^◌, ◌<◌, ◌≤◌, [], map};
 ghost use Rattle.std.specs.Prelude.{IfOk, IfErr, MatchResult, OnOk};
 ghost use Rattle.std.specs.List.Sorted.{IsStrictlyIncreasing};
+ghost use Rattle.elf_read_spec.specs.Image as elf;
 ghost use Rattle.decompile.specs.Items.{item_of};
 ghost use Rattle.decompile.specs.Counts as spec;
 ghost use Rattle.attempt.specs.declared.refusal.Refusal.TheVariants.{Fault};
@@ -70,10 +71,12 @@ pub(crate) struct Counting {
     pub runs: usize,
 }
 
-/// How many nodes an instruction has beside one: its tests, the landing node after a call, and with
-/// that the test before a tail call.
+/// How many nodes an instruction has beside one: its tests, the node in which a branch keeps the
+/// index of a table, the landing node after a call, with that the test before a tail call, and the
+/// tests of an index after the first one.
 fn further_nodes(by: Counting, item: &Item) -> Result<usize, AllocError>
-    ensures { IfOk result (λ count. count ≡ spec.further_nodes by (item_of item.now)) }
+    ensures { (image : elf.Image) → IfOk result (λ count. count
+        ≡ spec.further_nodes by (item_of image item.now)) }
 {
     match item.flow {
         Flow::Falls => access_tests(by.runs, &item.instruction),
@@ -84,14 +87,16 @@ fn further_nodes(by: Counting, item: &Item) -> Result<usize, AllocError>
             Ok(0)
         }
         Flow::Calls(target) => Ok(usize::from(target.is_multiple_of(4))),
-        Flow::Branches(_) | Flow::Links(_) | Flow::Returns | Flow::Stops => Ok(0),
+        Flow::Branches(_) => Ok(usize::from(item.keeps)),
+        Flow::Switches(jump) => Ok((jump.count as usize).saturating_sub(1)),
+        Flow::Links(_) | Flow::Returns | Flow::Stops => Ok(0),
     }
 }
 
 /// The number of the first node after those of an instruction, of which this is the first.
 fn after(by: Counting, item: &Item, first: usize) -> Result<usize, AllocError>
-    ensures { IfOk result (λ next. next
-        ≡ first + (spec.further_nodes by (item_of item.now) + 1)) }
+    ensures { (image : elf.Image) → IfOk result (λ next. next
+        ≡ first + (spec.further_nodes by (item_of image item.now) + 1)) }
 {
     let further = attempt!(further_nodes(by, item));
     let own = attempt!(plus(further, 1));
@@ -115,9 +120,11 @@ pub(crate) fn count_nodes(
     items: &[Item],
     maximum: usize,
 ) -> Result<usize, Refusal<GraphFault>>
-    ensures count { IfOk result (λ count. (count ≡ spec.counted by 1 (map item_of items.now))
-        × (count ≤ maximum)) }
-    ensures large { IfErr result (spec.IsTooMany by maximum (map item_of items.now)) }
+    ensures count { (image : elf.Image) → IfOk result (λ count. count
+        ≡ spec.counted by 1 (map (item_of image) items.now)) }
+    ensures within { IfOk result (λ count. count ≤ maximum) }
+    ensures large { (image : elf.Image) → IfErr result (spec.IsTooMany by maximum
+        (map (item_of image) items.now)) }
 {
     let mut count = bounded(1, maximum)?;
     for item in items {
@@ -136,7 +143,8 @@ fn number_nodes(
 ) -> Result<(), AllocError>
     requires none { firsts.old.entries ≡ [] }
     requires rising { IsStrictlyIncreasing (map (λ item. item.address) items.now) }
-    ensures { OnOk result (firsts.new.entries ≡ spec.numbered by 1 (map item_of items.now)) }
+    ensures { (image : elf.Image) → OnOk result (firsts.new.entries
+        ≡ spec.numbered by 1 (map (item_of image) items.now)) }
 {
     let mut next: usize = 1;
     for item in items {
@@ -153,8 +161,8 @@ pub(crate) fn first_nodes(
     items: &[Item],
 ) -> Result<IndexMap<u32, usize>, AllocError>
     requires { IsStrictlyIncreasing (map (λ item. item.address) items.now) }
-    ensures { IfOk result (λ firsts. firsts.entries
-        ≡ spec.numbered by 1 (map item_of items.now)) }
+    ensures { (image : elf.Image) → IfOk result (λ firsts. firsts.entries
+        ≡ spec.numbered by 1 (map (item_of image) items.now)) }
 {
     let mut firsts = IndexMap::new(alloc);
     attempt!(number_nodes(&mut firsts, by, items));

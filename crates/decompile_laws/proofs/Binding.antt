@@ -1,11 +1,11 @@
 -- A graph of code binds registers and memory alone.
-use Rattle.std.proofs.Common.{◌≡◌, ◌≢◌, ◌∙◌, ℕ, zero, suc, ◌+◌, ◌%◌, ◌==◌, Bool, true, false, cond, sym, ap, subst, arith, List, [], ◌∷◌, Some}
+use Rattle.std.proofs.Common.{◌≡◌, ◌≢◌, ◌∙◌, ℕ, zero, suc, ◌+◌, ◌%◌, ◌==◌, Bool, true, false, cond, refl, sym, ap, subst, arith, List, [], ◌∷◌, Some}
 use Rattle.std.specs.Prelude.{slice_get, ⊤, All}
 use Rattle.std.proofs.lemmas.Option.{get_or_from_slice_get}
 use Rattle.rv_instr.specs.declared.Instr.{Instr}
 use Rattle.rv_instr.specs.declared.Instr.TheVariants as instr
 use Rattle.elf_read_spec.specs.Image.{Image}
-use Rattle.code_reach_spec.specs.Code.{Flow, Falls, Branches, Jumps, Calls, Links, Returns, Stops}
+use Rattle.code_reach_spec.specs.Code.{Flow, Falls, Branches, Jumps, Calls, Links, Returns, Switches, Stops}
 use Rattle.term_core_spec.specs.declared.Family.{Family}
 use Rattle.term_core_spec.specs.declared.Family.TheVariants.{Register, BinaryMemory}
 use Rattle.term_core_spec.specs.Term.{Term}
@@ -14,7 +14,7 @@ use Rattle.graph_core_spec.specs.Graph.{Binding, Node, Basic, Cond, Call, Graph}
 use Rattle.graph_core_spec.specs.Variables.{own_bindings, NeverBinds}
 use Rattle.decompile_spec.specs.State.{register}
 use Rattle.decompile_spec.specs.InstructionTerms.{put, effects}
-use Rattle.decompile_spec.specs.Blocks.{NodeName, Following, Setting, Ending, Does, Goes, toward, onward, chain, tests_of, ending_of, nodes_at, leaves, call_inputs, tail_inputs, call_nodes, tail_call_nodes}
+use Rattle.decompile_spec.specs.Blocks.{NodeName, Following, Setting, Ending, Does, Goes, toward, onward, chain, branching, table_tests, does_all, tests_of, ending_of, nodes_at, leaves, call_inputs, tail_inputs, call_nodes, tail_call_nodes}
 use Rattle.decompile_spec.specs.CodeGraph.{IsNodeAt, entrance, of_instruction, landing, IsCodeGraph}
 use Rattle.rv_machine_spec.specs.Machine.{past}
 
@@ -55,32 +55,60 @@ module _ (family : Family) (no_register : family ≢ Register) (no_memory : fami
   IsFree : Node → Type 0
   IsFree node = All IsOther (own_bindings node)
 
+  -- each node
+  AreFree : List Node → Type 0
+  AreFree nodes = (k : ℕ) (node : Node) → slice_get nodes k ≡ Some node → IsFree node
+
   EndsFree : Ending → Type 0
-  EndsFree (Does node) = IsFree node
+  EndsFree (Does node more) = IsFree node × AreFree more
   EndsFree (Goes on) = ⊤
 
-  ending_free : (f : Setting) (a : ℕ) (i : Instr) (flow : Flow) → EndsFree (ending_of f a i flow)
+  no_more : AreFree []
+  unfolding AreFree
+  no_more k node is = absurd (cc)
+
+  and_more : (first : Node) (more : List Node) → IsFree first → AreFree more → AreFree (first ∷ more)
+  unfolding AreFree
+  and_more first more free rest zero node is = let same : first ≡ node = cc in subst (λ (x : Node). IsFree x) same free
+  and_more first more free rest (suc k) node is = rest k node is
+
+  tests_free : (f : Setting) (a j : ℕ) (targets : List ℕ) → AreFree (table_tests f a j targets)
+  unfolding IsFree table_tests
+  tests_free f a j [] = no_more
+  tests_free f a j (target ∷ rest) = and_more _ (table_tests f a (j + 1) rest) none (tests_free f a (j + 1) rest)
+
+  all_free : (nodes : List Node) → AreFree nodes → EndsFree (does_all nodes)
+  unfolding EndsFree IsFree AreFree
+  all_free [] free = (none, no_more)
+  all_free (node ∷ more) free = (free 0 node refl, λ k other is. free (suc k) other is)
+
+  branching_free : (f : Setting) (a : ℕ) (kept : Bool) (i : Instr) (target : ℕ) → EndsFree (branching f a kept i target)
+  unfolding EndsFree IsFree
+  branching_free f a false i target = (none, no_more)
+  branching_free f a true i target = (none, and_more _ [] (one _ (λ e. no_register (sym e))) no_more)
+
+  ending_free : (f : Setting) (a : ℕ) (kept : Bool) (i : Instr) (flow : Flow) → EndsFree (ending_of f a kept i flow)
   unfolding EndsFree IsFree ending_of
-  ending_free f a i Falls = effects_other a i
-  ending_free f a i (Branches target) = none
-  ending_free f a i (Jumps target) = at (leaves f target)
+  ending_free f a kept i Falls = (effects_other a i, no_more)
+  ending_free f a kept i (Branches target) = branching_free f a kept i target
+  ending_free f a kept i (Jumps target) = (at (leaves f target), no_more)
     where
       at : (b : Bool) → IsFree (cond b (Call (f.graph_number target) tail_inputs [] (f.at (Following a tail_call_nodes))) (Basic [] (toward f target)))
       at true = none
       at false = none
-  ending_free f a i (Calls target) = at (target % 4 == 0)
+  ending_free f a kept i (Calls target) = (at (target % 4 == 0), no_more)
     where
       at : (b : Bool) → IsFree (cond b (Call (f.graph_number target) (call_inputs (past a 4)) [] (f.at (Following a call_nodes))) (Basic [] to.Err))
       at true = none
       at false = none
-  ending_free f a i (Links target) = none
-  ending_free f a i Returns = tt
-  ending_free f a i Stops = none
+  ending_free f a kept i (Links target) = (none, no_more)
+  ending_free f a kept i Returns = tt
+  ending_free f a kept i (Switches jump) = all_free (table_tests f a 0 jump.targets) (tests_free f a 0 jump.targets)
+  ending_free f a kept i Stops = (none, no_more)
 
   chain_free : (f : Setting) (a j : ℕ) (tests : List Term) (ending : Ending) (k : ℕ) (node : Node) → EndsFree ending → slice_get (chain f a j tests ending) k ≡ Some node → IsFree node
-  unfolding EndsFree IsFree chain
-  chain_free f a j [] (Does last) zero node free is = let same : last ≡ node = cc in subst IsFree same free
-  chain_free f a j [] (Does last) (suc k) node free is = absurd (cc)
+  unfolding EndsFree IsFree AreFree chain
+  chain_free f a j [] (Does last more) k node free is = and_more last more free.0 free.1 k node is
   chain_free f a j [] (Goes on) k node free is = absurd (cc)
   chain_free f a j (test ∷ tests) ending zero node free is =
       let same : Cond test (onward f a (j + 1) tests ending) to.Err ≡ node = cc in subst IsFree same none
@@ -89,9 +117,9 @@ module _ (family : Family) (no_register : family ≢ Register) (no_memory : fami
   node_free : (image : Image) (f : Setting) (name : NodeName) (node : Node) → IsNodeAt image f name node → IsFree node
   unfolding IsFree nodes_at
   node_free image f _ _ entrance = none
-  node_free image f _ node (of_instruction a index i flow _ reach there flow_is get) =
-      chain_free f a 0 (tests_of f i flow) (ending_of f a i flow) index node (ending_free f a i flow) get
-  node_free image f _ _ (landing a own i flow on reach there flow_is long lands) = none
+  node_free image f _ node (of_instruction a index kept i flow _ reach there flow_is kept_is get) =
+      chain_free f a 0 (tests_of f i flow) (ending_of f a kept i flow) index node (ending_free f a kept i flow) get
+  node_free image f _ _ (landing a own kept i flow on reach there flow_is kept_is long lands) = none
 
   pub never_binds : (image : Image) (f : Setting) (graph : Graph) → IsCodeGraph image f graph → NeverBinds graph family
   unfolding IsFree

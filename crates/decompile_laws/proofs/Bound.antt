@@ -1,6 +1,8 @@
 -- Variables that are bound as the machine changes stay like it.
 use Rattle.std.proofs.Common.{◌≡◌, ◌∙◌, ◌≢◌, inl, inr, ℕ, ◌<◌, ◌==◌, ◌&&◌, Bool, true, false, cond, refl, sym, ap, subst, arith, eq-eqb, ne_eqb, List, [], ◌∷◌, length, map}
 use Rattle.std.proofs.lemmas.Bool.{cases_eq}
+use Rattle.rv_instr.specs.declared.Instr.{Instr}
+use Rattle.rv_instr.specs.declared.Instr.TheVariants as instr
 use Rattle.memory_spec.specs.Memory.{Memory, byte_at}
 use Rattle.rv_machine_spec.specs.Machine.{Machine, read_register, write_register}
 use Rattle.rv_machine_spec.proofs.Registers.{read-write_same, read-write_other, memory-write}
@@ -9,10 +11,11 @@ use Rattle.term_core_spec.specs.Term.{Term}
 use Rattle.term_core_spec.specs.Value.{Number, Bytes, Assignment, value}
 use Rattle.graph_core_spec.specs.Graph.{Binding}
 use Rattle.graph_core_spec.specs.Run.{bound, entered, resumed, is_shared, unset}
-use Rattle.decompile_spec.specs.State.{register, entry_register, memory, Alike}
+use Rattle.decompile_spec.specs.State.{register, entry_register, table_index, memory, Alike}
 use Rattle.decompile_spec.specs.InstructionTerms as instruction_terms
 use Rattle.decompile_spec.specs.Blocks.{entry_binding, other_registers, call_inputs, tail_inputs}
 use Rattle.decompile_laws.specs.Together.{Began}
+use Rattle.decompile_laws.proofs.Fields.{AreFields}
 
 -- ---- one register
 
@@ -66,6 +69,48 @@ put_began s r term back began = at (r == 0)
     at : (b : Bool) → bound (cond b [] (record { variable = register r; term = term } ∷ [])) s s (entry_register 1) ≡ Number W32 back
     at true = began
     at false = began
+
+-- ---- the index of a table
+
+abbrev index_only : Term → List Binding
+index_only term = record { variable = table_index; term = term } ∷ []
+
+pub index_is : (s : Assignment) (term : Term) (result : ℕ) → value s term ≡ Number W32 result → bound (index_only term) s s table_index ≡ Number W32 result
+index_is s term result is = bound_same s 32 term result is
+
+pub index_alike : (s : Assignment) (m : Machine) (term : Term) (result : ℕ) → value s term ≡ Number W32 result → Alike m s → Alike m (bound (index_only term) s s)
+index_alike s m term result is alike = record {
+  registers = λ q some below. bound_other s 32 term result is q (λ e. absurd (omega (arith, e, below))) ∙ alike.registers q some below;
+  bytes = bound_memory s 32 term result is ∙ alike.bytes;
+}
+
+pub index_began : (s : Assignment) (term : Term) (result back : ℕ) → value s term ≡ Number W32 result → Began s back → Began (bound (index_only term) s s) back
+index_began s term result back is began = bound_entry s 32 term result is 1 ∙ began
+
+put_index : (s : Assignment) (r : ℕ) (term : Term) → r < 32 → bound (instruction_terms.put r term) s s table_index ≡ s table_index
+unfolding bound
+put_index s r term below = at (r == 0)
+  where
+    at : (b : Bool) → bound (cond b [] (record { variable = register r; term = term } ∷ [])) s s table_index ≡ s table_index
+    at true = refl
+    at false = ap (λ (b : Bool). cond (b && true) (value s term) (s table_index)) (ne_eqb 32 r (λ e. absurd (omega (arith, e, below))))
+
+-- no instruction that continues at the next one changes it
+pub effects_index : (s : Assignment) (a : ℕ) (i : Instr) → AreFields i → bound (instruction_terms.effects a i) s s table_index ≡ s table_index
+unfolding bound instruction_terms.effects
+effects_index s a (instr.Lui rd imm) fields = put_index s rd _ fields
+effects_index s a (instr.Auipc rd imm) fields = put_index s rd _ fields
+effects_index s a (instr.Jal rd offset) fields = refl
+effects_index s a (instr.Jalr rd base offset) fields = refl
+effects_index s a (instr.Branch test left right offset) fields = refl
+effects_index s a (instr.Load kind rd base offset) fields = put_index s rd _ fields.0
+effects_index s a (instr.Store kind base source offset) fields = refl
+effects_index s a (instr.Immediate operation rd source imm) fields = put_index s rd _ fields.0
+effects_index s a (instr.Shift operation rd source amount) fields = put_index s rd _ fields.0
+effects_index s a (instr.Arithmetic operation rd left right) fields = put_index s rd _ fields.0
+effects_index s a (instr.Fence rd source bits) fields = refl
+effects_index s a instr.Ecall fields = refl
+effects_index s a instr.Ebreak fields = refl
 
 -- ---- memory
 

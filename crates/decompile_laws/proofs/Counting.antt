@@ -1,12 +1,12 @@
 -- The instructions of the machine are counted by the nodes of the graphs at which an instruction begins.
-use Rattle.std.proofs.Common.{◌≡◌, ◌∙◌, ◌⊎◌, inl, inr, ℕ, zero, suc, ◌+◌, ◌%◌, Bool, true, cond, refl, sym, ap, subst, arith, eq-eqb, ne_eqb, List, [], ◌∷◌, ◌++◌, length, Some, None}
+use Rattle.std.proofs.Common.{◌≡◌, ◌∙◌, ◌⊎◌, inl, inr, ℕ, zero, suc, ◌+◌, ◌%◌, ◌<◌, Bool, true, cond, refl, sym, ap, subst, arith, eq-eqb, ne_eqb, List, [], ◌∷◌, ◌++◌, length, Some, None}
 use Rattle.std.specs.Prelude.{slice_get}
 use Rattle.std.proofs.lemmas.List.{append-nil}
 use Rattle.rv_instr.specs.declared.Instr.{Instr}
 use Rattle.rv_machine_spec.specs.Machine.{Machine, read_register}
 use Rattle.elf_read_spec.specs.Image.{Image, size_at}
-use Rattle.code_reach_spec.specs.Code.{Flow, Calls, instr_at, flow_at, IsReachable, Reaches}
-use Rattle.code_reach_spec.specs.Faults.{ReachesNoFault}
+use Rattle.code_reach_spec.specs.Code.{Flow, Branches, Calls, Switches, instr_at, flow_at, IsReachable, Reaches}
+use Rattle.code_reach_spec.specs.Faults.{HasNoFault, ReachesNoFault}
 use Rattle.term_core_spec.specs.Term.{Term}
 use Rattle.term_core_spec.specs.Value.{Assignment}
 use Rattle.graph_core_spec.specs.declared.Next.TheVariants as to
@@ -15,10 +15,12 @@ use Rattle.graph_core_spec.specs.Run.{Waiting, State, Running, Returned, Failed,
 use Rattle.graph_core_spec.specs.TransitionSystem.{TransitionSystem, after}
 use Rattle.decompile_spec.specs.State.{Alike}
 use Rattle.decompile_spec.specs.Blocks.{NodeName, Entrance, Of, Following, Setting, Ending, Does, Goes, call_nodes, tail_call_nodes, toward, onward, chain, tests_of, ending_of, nodes_at, landing_of}
-use Rattle.decompile_spec.specs.CodeGraph.{IsNodeAt, entrance, of_instruction, landing}
-use Rattle.decompile_laws.specs.Together.{Numbering, setting, AreCodeGraphs, is_node, begun_by, IsAt, at_entrance, at_landing, in_instruction, Began, AreWaiting, tail_landing, Corresponds, corresponds, at_tail_landing, at_home, IsSound, IsOutside, failed, is_first, AreFirsts, one_if, weight, passed_by, HasComeHome, StartAlike, CountsInstructions}
+use Rattle.decompile_spec.specs.CodeGraph.{IsKept, IsNodeAt, entrance, of_instruction, landing}
+use Rattle.decompile_laws.specs.Together.{Numbering, setting, AreCodeGraphs, is_node, begun_by, IsFurther, at_kept, in_table, IsAt, at_entrance, at_landing, in_instruction, further_in, Began, AreWaiting, tail_landing, Corresponds, corresponds, at_tail_landing, at_home, IsSound, IsOutside, failed, is_first, AreFirsts, one_if, weight, passed_by, HasComeHome, StartAlike, CountsInstructions}
+use Rattle.decompile_laws.specs.RunUps.{IsInRunUps}
+use Rattle.decompile_laws.proofs.KeptBranches.{kept_or_not}
 use Rattle.decompile_laws.proofs.Reached.{has_instruction}
-use Rattle.decompile_laws.proofs.Nodes.{test_in, last_in, call_long}
+use Rattle.decompile_laws.proofs.Nodes.{test_in, last_in, kept_node, table_node, call_long}
 use Rattle.decompile_laws.proofs.Steps.{Goes_on, Acts, Moves, fails, goes_on, returns, stops, acts, waits, clean, tail_node}
 use Rattle.decompile_laws.proofs.Moving.{count_at}
 use Rattle.decompile_laws.proofs.Leading.{count_of, moves}
@@ -32,33 +34,45 @@ module _ (image : Image) (entry : ℕ) (n : Numbering) (graphs : Graphs) (home :
   -- ---- the weight of a node
 
   -- the node at which a run is in an instruction
-  node_of : (f : Setting) (address : ℕ) (i : Instr) (flow : Flow) (passed left : List Term) → IsReachable image f.entry f.size address → instr_at image address ≡ Some i
-      → flow_at image f.entry address ≡ Some flow → tests_of f i flow ≡ passed ++ left → is_node left (ending_of f address i flow) ≡ true
+  node_of : (f : Setting) (address : ℕ) (kept : Bool) (i : Instr) (flow : Flow) (passed left : List Term) → IsReachable image f.entry f.size address → instr_at image address ≡ Some i
+      → flow_at image f.entry address ≡ Some flow → IsKept image f.entry f.size address kept → tests_of f i flow ≡ passed ++ left → is_node left (ending_of f address kept i flow) ≡ true
       → (node : Node) × IsNodeAt image f (Of address (length passed)) node
   unfolding nodes_at
-  node_of f address i flow passed (test ∷ left) there is flow_is tests node = (
-    Cond test (onward f address (0 + length passed + 1) left (ending_of f address i flow)) to.Err,
-    of_instruction address (length passed) i flow _ there is flow_is
-        (ap (λ ts. slice_get (chain f address 0 ts (ending_of f address i flow)) (length passed)) tests ∙ test_in f address 0 passed test left (ending_of f address i flow)),
+  node_of f address kept i flow passed (test ∷ left) there is flow_is kept_is tests node = (
+    Cond test (onward f address (0 + length passed + 1) left (ending_of f address kept i flow)) to.Err,
+    of_instruction address (length passed) kept i flow _ there is flow_is kept_is
+        (ap (λ ts. slice_get (chain f address 0 ts (ending_of f address kept i flow)) (length passed)) tests ∙ test_in f address 0 passed test left (ending_of f address kept i flow)),
   )
-  node_of f address i flow passed [] there is flow_is tests node = by (ending_of f address i flow) refl node
+  node_of f address kept i flow passed [] there is flow_is kept_is tests node = by (ending_of f address kept i flow) refl node
     where
-      by : (e : Ending) → ending_of f address i flow ≡ e → is_node [] e ≡ true → (node : Node) × IsNodeAt image f (Of address (length passed)) node
+      by : (e : Ending) → ending_of f address kept i flow ≡ e → is_node [] e ≡ true → (node : Node) × IsNodeAt image f (Of address (length passed)) node
       by (Goes next) same none = absurd (cc)
-      by (Does last) same some = (
+      by (Does last more) same some = (
         last,
-        of_instruction address (length passed) i flow last there is flow_is
-            (ap (λ ts. slice_get (chain f address 0 ts (ending_of f address i flow)) (length passed)) (tests ∙ append-nil passed)
+        of_instruction address (length passed) kept i flow last there is flow_is kept_is
+            (ap (λ ts. slice_get (chain f address 0 ts (ending_of f address kept i flow)) (length passed)) (tests ∙ append-nil passed)
             ∙ ap (λ (e : Ending). slice_get (chain f address 0 passed e) (length passed)) same
-            ∙ last_in f address 0 passed last),
+            ∙ last_in f address 0 passed last more),
       )
+
+  -- the node at which it is further in one
+  further_node : (f : Setting) (values : Assignment) (address index : ℕ) → HasNoFault image f.entry f.size → IsFurther image f values address index
+      → (node : Node) × IsNodeAt image f (Of address index) node × (0 < index)
+  further_node f values address _ sound (at_kept target i there is flow_is keeping off) =
+      (_, of_instruction address 1 true i (Branches target) _ there is flow_is keeping (kept_node f address i target), omega arith)
+  further_node f values address _ sound (in_table jump test index there flow_is some within kept_index low) =
+      let i = has_instruction image f.entry f.size address sound there in
+      let kept = kept_or_not image f.entry f.size sound address there in
+      let node = table_node f address kept.0 i.0 jump test within in
+      (node.0, of_instruction address test kept.0 i.0 (Switches jump) node.0 there i.1 flow_is kept.1 node.1, some)
 
   marks : (function size : ℕ) → Reaches image entry function → size_at image function ≡ Some size → (name : NodeName) (node : Node)
       → IsNodeAt image (setting n function size) name node → one_if (marked (n.graph_number function) (n.node_number function name)) ≡ one_if (is_first name)
   marks function size reached sized name node is = ap one_if (firsts.each function size name node reached sized is)
 
   module _ (function size : ℕ) (reached : Reaches image entry function) (sized : size_at image function ≡ Some size) (m : Machine) (ok : IsSound image m)
-      (back : ℕ) (values : Assignment) (below : List Waiting) (alike : Alike m values) (began : Began values back) (waiting : AreWaiting image entry n home below back) where
+      (back : ℕ) (values : Assignment) (below : List Waiting) (in_run_ups : IsInRunUps image function size m values) (alike : Alike m values) (began : Began values back)
+      (waiting : AreWaiting image entry n home below back) where
     abbrev f : Setting
     f = setting n function size
 
@@ -69,26 +83,32 @@ module _ (image : Image) (entry : ℕ) (n : Numbering) (graphs : Graphs) (home :
         omega (arith, none, same)
 
     weighs_at : (node begun : ℕ) (at : IsAt image f values m.pc node begun)
-        → one_if (marked (n.graph_number function) node) + begun ≡ count_at image entry n graphs home no_fault whole function size reached sized m ok back values below alike began waiting node begun at
+        → one_if (marked (n.graph_number function) node) + begun ≡ count_at image entry n graphs home no_fault whole function size reached sized m ok back values below in_run_ups alike began waiting node begun at
     unfolding landing_of
     weighs_at _ _ (at_entrance pc_is) =
         let none : one_if (marked (n.graph_number function) (n.node_number function Entrance)) ≡ 0 = marks function size reached sized Entrance _ entrance in
         omega (arith, none)
     weighs_at _ _ (at_landing address target there flow_is even pc_is) =
         let found = has_instruction image function size address (clean image entry n graphs home no_fault whole function size reached sized) there in
+        let kept = kept_or_not image function size (clean image entry n graphs home no_fault whole function size reached sized) address there in
         let placed : IsNodeAt image f (Following address call_nodes) (Basic [] (toward f (address + 4))) =
-        landing address call_nodes found.0 (Calls target) (toward f (address + 4)) there found.1 flow_is (call_long f address found.0 target)
+        landing address call_nodes kept.0 found.0 (Calls target) (toward f (address + 4)) there found.1 flow_is kept.1 (call_long f address kept.0 found.0 target)
         (ap (λ (b : Bool). cond b (Some (toward f (address + 4))) None) (eq-eqb (target % 4) 0 even)) in
         let none : one_if (marked (n.graph_number function) (n.node_number function (Following address call_nodes))) ≡ 0 = marks function size reached sized (Following address call_nodes) _ placed in
         omega (arith, none)
-    weighs_at _ _ (in_instruction i flow passed left there is flow_is paired tests hold node) =
-        let placed = node_of f m.pc i flow passed left there is flow_is tests node in
+    weighs_at _ _ (further_in index further) =
+        let placed = further_node f values m.pc index (clean image entry n graphs home no_fault whole function size reached sized) further in
+        let none : one_if (marked (n.graph_number function) (n.node_number function (Of m.pc index))) ≡ 0 =
+        marks function size reached sized (Of m.pc index) placed.0 placed.1 ∙ ap one_if (ne_eqb index 0 (λ e. absurd (omega (arith, e, placed.2)))) in
+        omega (arith, none)
+    weighs_at _ _ (in_instruction kept i flow passed left there is flow_is kept_is paired tests hold node) =
+        let placed = node_of f m.pc kept i flow passed left there is flow_is kept_is tests node in
         instruction_weighs passed _ _ (marks function size reached sized (Of m.pc (length passed)) placed.0 placed.1) refl
 
   weighs : (m : Machine) (begun : ℕ) (s : State) (ok : IsSound image m) (c : Corresponds image entry n home m begun s)
       → weight marked s + begun ≡ count_of image entry n graphs home no_fault whole m begun s ok c
-  weighs m _ _ ok (corresponds function size node begun back values below reached sized at alike began waiting) =
-      weighs_at function size reached sized m ok back values below alike began waiting node begun at
+  weighs m _ _ ok (corresponds function size node begun back values below reached sized at in_run_ups alike began waiting) =
+      weighs_at function size reached sized m ok back values below in_run_ups alike began waiting node begun at
   weighs m _ _ ok (at_tail_landing _ _ values below (tail_landing function size address target ends) alike rest) =
       let none : one_if (marked (n.graph_number function) (n.node_number function (Following address tail_call_nodes))) ≡ 0 =
       marks function size ends.reached ends.sized (Following address tail_call_nodes) _ (tail_node image entry n graphs home no_fault whole function size address target ends) in

@@ -15,6 +15,7 @@ use Rattle.rv_machine_spec.proofs.Kept.{read_below, byte_below}
 use Rattle.elf_read_spec.specs.Image.{Image}
 use Rattle.memory_spec.specs.Runs.{Run}
 use Rattle.elf_read_spec.specs.Runs.{AreRuns}
+use Rattle.code_reach_spec.specs.RunUp.{Registers, is_straight, bound_of}
 use Rattle.code_reach_spec.specs.Code.{HoldsFixed, Falls, Jumps, Calls, Links, Returns, flow_of, flow_of_pair, pair_target}
 use Rattle.term_core_spec.specs.Term.{Term}
 use Rattle.term_core_spec.specs.Value.{Bytes, Assignment, value}
@@ -30,6 +31,7 @@ use Rattle.decompile_laws.specs.Together.{Began, IsSound}
 use Rattle.decompile_laws.proofs.Bound.{put_alike, put_began, store_alike, store_began, moved_alike}
 use Rattle.decompile_laws.proofs.Stored.{parts_hold, store_keeps}
 use Rattle.decompile_laws.proofs.Fields.{AreFields}
+use Rattle.decompile_laws.proofs.RunUpSteps.{IsNotTaken}
 
 -- the machine after the instruction, and the variables after its node
 pub record Fell (image : Image) (m : Machine) (s : Assignment) (i : Instr) (back : ℕ) : Type 0 where
@@ -39,6 +41,43 @@ pub record Fell (image : Image) (m : Machine) (s : Assignment) (i : Instr) (back
   pub fixed : HoldsFixed image then.memory
   pub alike : Alike then (bound (effects m.pc i) s s)
   pub began : Began (bound (effects m.pc i) s s) back
+
+-- no jump continues at the next instruction
+no_jump : (b c : Bool) (t u v : ℕ) → cond b (Jumps t) (cond c (Calls u) (Links v)) ≡ Falls → ⊥
+no_jump true c t u v e = absurd (cc)
+no_jump false true t u v e = absurd (cc)
+no_jump false false t u v e = absurd (cc)
+
+no_pair : (b : Bool) (t : ℕ) → cond b (Jumps t) (Calls t) ≡ Falls → ⊥
+no_pair true t e = absurd (cc)
+no_pair false t e = absurd (cc)
+
+no_return : (b : Bool) (o : Option ℕ) (rd : ℕ) → cond b Returns (flow_of_pair o rd) ≡ Falls → ⊥
+no_return true o rd e = absurd (cc)
+no_return false None rd e = absurd (cc)
+no_return false (Some t) rd e = absurd (no_pair (rd == 0) t e)
+
+-- an instruction that continues at the next one may stand before a jump by a table, and bounds nothing
+pub record IsPlain (i : Instr) : Type 0 where
+  pub straight : is_straight i ≡ true
+  pub no_bound : (x : Registers) (address : ℕ) → bound_of x address i ≡ None
+  pub not_taken : (m : Machine) → IsNotTaken m i
+
+pub plain : (previous : Option Instr) (address : ℕ) (i : Instr) → flow_of previous address i ≡ Falls → IsPlain i
+unfolding bound_of
+plain previous address (Lui rd imm) flow = record { straight = refl; no_bound = λ x a. refl; not_taken = λ m. tt }
+plain previous address (Auipc rd imm) flow = record { straight = refl; no_bound = λ x a. refl; not_taken = λ m. tt }
+plain previous address (Jal rd offset) flow = absurd (no_jump (rd == 0) (rd == 1) _ _ _ flow)
+plain previous address (Jalr rd base offset) flow = absurd (no_return _ (pair_target previous address rd base offset) rd flow)
+plain previous address (Branch test left right offset) flow = absurd (cc)
+plain previous address (Load kind rd base offset) flow = record { straight = refl; no_bound = λ x a. refl; not_taken = λ m. tt }
+plain previous address (Store kind base source offset) flow = record { straight = refl; no_bound = λ x a. refl; not_taken = λ m. tt }
+plain previous address (Immediate operation rd source imm) flow = record { straight = refl; no_bound = λ x a. refl; not_taken = λ m. tt }
+plain previous address (Shift operation rd source amount) flow = record { straight = refl; no_bound = λ x a. refl; not_taken = λ m. tt }
+plain previous address (Arithmetic operation rd left right) flow = record { straight = refl; no_bound = λ x a. refl; not_taken = λ m. tt }
+plain previous address (Fence rd source bits) flow = record { straight = refl; no_bound = λ x a. refl; not_taken = λ m. tt }
+plain previous address Ecall flow = absurd (cc)
+plain previous address Ebreak flow = absurd (cc)
 
 word_below : (z : ℤ) → word z < 2 ^ 32
 word_below (pos n) = omega arith
@@ -110,21 +149,6 @@ module _ (image : Image) (m : Machine) (s : Assignment) (back : ℕ) (sound : Is
       (store_keeps image runs are s kind (address base offset) m.memory found.0 (step.address m base offset) (read_register m source) (omega arith)
       (address_evaluates s m alike base offset low) h found.1 sound.fixed)
       refl found.2
-
-  -- no jump continues at the next instruction
-  no_jump : (b c : Bool) (t u v : ℕ) → cond b (Jumps t) (cond c (Calls u) (Links v)) ≡ Falls → ⊥
-  no_jump true c t u v e = absurd (cc)
-  no_jump false true t u v e = absurd (cc)
-  no_jump false false t u v e = absurd (cc)
-
-  no_pair : (b : Bool) (t : ℕ) → cond b (Jumps t) (Calls t) ≡ Falls → ⊥
-  no_pair true t e = absurd (cc)
-  no_pair false t e = absurd (cc)
-
-  no_return : (b : Bool) (o : Option ℕ) (rd : ℕ) → cond b Returns (flow_of_pair o rd) ≡ Falls → ⊥
-  no_return true o rd e = absurd (cc)
-  no_return false None rd e = absurd (cc)
-  no_return false (Some t) rd e = absurd (no_pair (rd == 0) t e)
 
   pub falls : (runs : List Run) → AreRuns image runs → (previous : Option Instr) (i : Instr) → AreFields i → flow_of previous m.pc i ≡ Falls
       → all_hold s (access_tests runs i) ≡ true → Fell image m s i back

@@ -23,3 +23,11 @@ pub mod Sorted
 pub mod ValidGraphs
 pub mod Binding
 pub mod Sized
+pub mod RunUpTerms
+pub mod RunUpFree
+pub mod RunUpSteps
+pub mod RunUpJumps
+pub mod RunUpBounds
+pub mod Switching
+pub mod RunUpsOf
+pub mod KeptBranches

@@ -1,12 +1,13 @@
 -- The addresses that a function without faults reaches, and where its instructions go.
-use Rattle.std.proofs.Common.{◌≡◌, ◌∙◌, ◌⊎◌, inl, inr, ℕ, ◌+◌, ◌-◌, ◌%◌, ◌^◌, ◌<◌, ◌≤◌, ◌==◌, Bool, true, false, cond, refl, sym, ap, subst, arith, eqb-true, eq-eqb, List, [], ◌∷◌, get_or, Option, Some, None}
-use Rattle.std.specs.Prelude.{Contains, nat_le, option_and_then, IsSome, is_some}
+use Rattle.std.proofs.Common.{◌≡◌, ◌∙◌, ◌⊎◌, inl, inr, ℕ, zero, suc, ◌+◌, ◌-◌, ◌*◌, ◌%◌, ◌^◌, ◌<◌, ◌≤◌, ◌==◌, Bool, true, false, cond, refl, sym, ap, subst, arith, eqb-true, eq-eqb, List, [], ◌∷◌, get_or, Option, Some, None}
+use Rattle.std.specs.Prelude.{Contains, flat_map, IsSome, is_some}
+use Rattle.std.proofs.lemmas.List.Elements.{Contains-append_left, Contains-append_right, Contains-append_cases}
 use Rattle.std.proofs.lemmas.Bool.{cases_lt, cases_eq}
 use Rattle.rv_instr.specs.declared.Instr.{Instr}
 use Rattle.elf_read_spec.specs.Image.{Image, size_at, fixed_byte}
 use Rattle.code_reach_spec.specs.declared.CodeKind.TheVariants.{NoFunction, Empty, Writable, Misplaced, Undecoded, Indirect, Leaves}
-use Rattle.code_reach_spec.specs.Code.{InRange, HasCode, IsFixedRange, empty, writable, misplaced, aligned, Flow, Falls, Branches, Jumps, Calls, Links, Returns, Stops, flow_of, instr_at, instr_before, flow_at, nexts_of, IsReachable, here, next}
-use Rattle.code_reach_spec.specs.Faults.{is_pair, goes_to, IsTarget, IsInstructionFault, no_function, undecoded, without_auipc, leaves, of_instruction, of_range, HasNoFault}
+use Rattle.code_reach_spec.specs.Code.{InRange, HasCode, IsFixedRange, empty, writable, misplaced, aligned, Flow, Falls, Branches, Jumps, Calls, Links, Returns, Stops, Switches, TableJump, instr_at, flow_at, nexts_of, IsReachable, here, next}
+use Rattle.code_reach_spec.specs.Faults.{is_pair, goes_to, IsTarget, IsInstructionFault, no_function, undecoded, entered, at_jump, in_run_up, leaves, misaligned as odd_table, of_instruction, of_range, HasNoFault}
 
 -- ---- lists of one or two addresses
 
@@ -36,6 +37,21 @@ in_aligned target t = at (target % 4 == 0) refl
 pub is_aligned : (target : ℕ) → target % 4 ≡ 0 → Contains (aligned target) target
 is_aligned target e = rw (eq-eqb (target % 4) 0 e) (first_in target [])
 
+-- the words of a table that are multiples of 4
+in_all_aligned : (targets : List ℕ) (t : ℕ) → Contains (flat_map aligned targets) t → t % 4 ≡ 0
+in_all_aligned [] t among = absurd (none_in t among)
+in_all_aligned (target ∷ rest) t among = elim (Contains-append_cases (aligned target) (flat_map aligned rest) t among) [
+  | inl first ↦ (in_aligned target t first).1
+  | inr later ↦ in_all_aligned rest t later
+]
+
+pub all_aligned : (targets : List ℕ) (t : ℕ) → Contains targets t → t % 4 ≡ 0 → Contains (flat_map aligned targets) t
+all_aligned [] t among even = absurd (none_in t among)
+all_aligned (target ∷ rest) t (zero, below, e) even =
+    Contains-append_left (aligned target) (flat_map aligned rest) t (subst (λ u. Contains (aligned u) t) (sym e) (is_aligned t even))
+all_aligned (target ∷ rest) t (suc k, below, e) even =
+    Contains-append_right (aligned target) (flat_map aligned rest) t (all_aligned rest t (k, omega (arith, below), e) even)
+
 -- ---- where they lie
 
 pub has_code : (image : Image) (entry size address : ℕ) → IsReachable image entry size address → HasCode image entry size
@@ -64,6 +80,7 @@ next_multiple address t (Jumps target) e among = (in_aligned target t among).1
 next_multiple address t (Calls target) e among = omega (arith, e, only_in (address + 4) t among)
 next_multiple address t (Links target) e among = (in_aligned target t among).1
 next_multiple address t Returns e among = absurd (none_in t among)
+next_multiple address t (Switches jump) e among = in_all_aligned jump.targets t among
 next_multiple address t Stops e among = absurd (none_in t among)
 
 pub multiple_there : (image : Image) (entry size address : ℕ) → IsReachable image entry size address → address % 4 ≡ 0
@@ -118,11 +135,6 @@ module _ (image : Image) (entry size address : ℕ) (sound : HasNoFault image en
       at None e = absurd (no_fault NoFunction (no_function target is e))
       at (Some s) e = rw e refl
 
-  -- the JALR of a pair is no target
-  pub no_target : (i : Instr) (flow : Flow) → instr_at image address ≡ Some i → flow_at image entry address ≡ Some flow → is_pair i flow ≡ true
-      → IsTarget image entry size address → ⊥
-  no_target i flow there is pair target = no_fault Indirect (without_auipc i flow there is pair target)
-
   pub has_instruction : (i : Instr) × (instr_at image address ≡ Some i)
   has_instruction = at (instr_at image address) refl
     where
@@ -130,21 +142,24 @@ module _ (image : Image) (entry size address : ℕ) (sound : HasNoFault image en
       at None e = absurd (no_fault Undecoded (undecoded e))
       at (Some i) e = (i, e)
 
--- the flow of an instruction, given the one before it
-pub flow_there : (image : Image) (entry address : ℕ) (i : Instr) (flow : Flow) → instr_at image address ≡ Some i → flow_at image entry address ≡ Some flow
-    → flow_of (instr_before image entry address) address i ≡ flow
-unfolding flow_at
-flow_there image entry address i flow there is =
-    let found : Some (flow_of (instr_before image entry address) address i) ≡ Some flow =
-    sym (ap (λ (o : Option Instr). option_and_then (λ j. Some (flow_of (instr_before image entry address) address j)) o) there) ∙ is in
-    cc
+  -- the JALR of a pair is no target
+  pub no_target : (i : Instr) (flow : Flow) → instr_at image address ≡ Some i → flow_at image entry address ≡ Some flow → is_pair i flow ≡ true
+      → IsTarget image entry size address → ⊥
+  no_target i flow there is pair target = no_fault Indirect (entered i flow there is (at_jump flow pair target))
 
-pub has_flow : (image : Image) (entry address : ℕ) (i : Instr) → instr_at image address ≡ Some i → (flow : Flow) × (flow_at image entry address ≡ Some flow)
-unfolding flow_at
-has_flow image entry address i there = (
-  flow_of (cond (nat_le (entry + 4) address) (instr_at image (address - 4)) None) address i,
-  ap (λ (o : Option Instr). option_and_then (λ j. Some (flow_of (cond (nat_le (entry + 4) address) (instr_at image (address - 4)) None) address j)) o) there,
-)
+  -- a target is no word of a run-up but the first
+  pub not_entered : (jump : TableJump) (back : ℕ) → flow_at image entry address ≡ Some (Switches jump) → back < jump.before
+      → IsTarget image entry size (address - 4 * back) → ⊥
+  not_entered jump back is lt target =
+      let i = has_instruction in
+      no_fault Indirect (entered i.0 (Switches jump) i.1 is (in_run_up jump back lt target))
+
+  -- the words of a table are multiples of 4
+  pub table_whole : (jump : TableJump) (t : ℕ) → flow_at image entry address ≡ Some (Switches jump) → Contains jump.targets t → t % 4 ≡ 0
+  table_whole jump t is among = elim (cases_eq (t % 4) 0) [
+    | inl even ↦ even
+    | inr odd ↦ absurd (no_fault Leaves (odd_table jump t is among odd))
+  ]
 
 -- a function without faults has code
 module _ (image : Image) (entry size : ℕ) (sound : HasNoFault image entry size) where

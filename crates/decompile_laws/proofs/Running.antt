@@ -16,7 +16,8 @@ use Rattle.graph_core_spec.proofs.Runs.{after-add, still}
 use Rattle.decompile_spec.specs.State.{Alike}
 use Rattle.decompile_spec.specs.Blocks.{Entrance}
 use Rattle.decompile_laws.specs.Together.{Numbering, AreCodeGraphs, at_entrance, nobody, Corresponds, corresponds, at_tail_landing, at_home, IsReturning, all_returned, at_landing_node, IsSound, IsOutside, IsOver, returned, failed, CorrespondsAfter, StepTogether, ReturnTogether, StartAlike}
-use Rattle.decompile_laws.proofs.Steps.{IsAmong, Goes_on, Acts, Moves, fails, goes_on, returns, stops, acts, waits, tail_lands}
+use Rattle.decompile_laws.proofs.Steps.{IsAmong, Goes_on, Acts, Moves, fails, goes_on, returns, stops, acts, waits, clean, tail_lands}
+use Rattle.decompile_laws.proofs.RunUpsOf.{outside_at_entry}
 use Rattle.decompile_laws.proofs.Leading.{Comes, has_acted, has_come_home, Proceeds, leads, moves}
 
 module _ (image : Image) (entry : ℕ) (n : Numbering) (graphs : Graphs) (home : ℕ) (no_fault : ReachesNoFault image entry) (whole : AreCodeGraphs image entry n graphs) where
@@ -181,7 +182,7 @@ module _ (image : Image) (entry : ℕ) (n : Numbering) (graphs : Graphs) (home :
     -- the machine that corresponds to a run that has returned
     pub is_home : (m : Machine) (begun : ℕ) (s : State) (values : Assignment) → s ≡ Returned values → Corresponds image entry n home m begun s
         → (m.pc ≡ home) × Alike m values × (begun ≡ 0)
-    is_home m _ _ values e (corresponds function size node begun back others below reached sized at alike began waiting) = absurd (cc)
+    is_home m _ _ values e (corresponds function size node begun back others below reached sized at in_run_ups alike began waiting) = absurd (cc)
     is_home m _ _ values e (at_tail_landing graph node others below lands alike rest) = absurd (cc)
     is_home m _ _ values e (at_home others there alike) =
         let same : others ≡ values = cc in
@@ -289,7 +290,9 @@ module _ (image : Image) (entry size : ℕ) (n : Numbering) (graphs : Graphs) (m
   first = Running (n.graph_number entry) (n.node_number entry Entrance) values []
 
   pub begins : Corresponds image entry n (read_register m 1) m 0 first
-  begins = corresponds entry size (n.node_number entry Entrance) 0 (read_register m 1) values [] itself sized (at_entrance start.at_entry) start.alike start.began nobody
+  begins = corresponds entry size (n.node_number entry Entrance) 0 (read_register m 1) values [] itself sized (at_entrance start.at_entry)
+      (outside_at_entry image entry size (clean image entry n graphs (read_register m 1) no_fault whole entry size itself sized) m values start.at_entry)
+      start.alike start.began nobody
 
   corresponds_after : (stop k : ℕ) (s : State) → StartsAt image entry n graphs (read_register m 1) no_fault whole m stop k s → CorrespondsAfter image entry n m stop k s
   corresponds_after stop k s starts = record { now = starts.now; now_is = starts.now_is; sound = starts.sound; begun = starts.begun; alike = starts.alike }

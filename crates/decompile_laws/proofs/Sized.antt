@@ -7,21 +7,21 @@ use Rattle.std.proofs.lemmas.Map.Steps.{le-length_from_below}
 use Rattle.rv_instr.specs.declared.Instr.{Instr}
 use Rattle.elf_read_spec.specs.Image.{Image}
 use Rattle.memory_spec.specs.Runs.{Run}
-use Rattle.code_reach_spec.specs.Code.{Flow, Falls, Branches, Jumps, Calls, Links, Returns, Stops}
+use Rattle.code_reach_spec.specs.Code.{Flow, Falls, Branches, Jumps, Calls, Links, Returns, Switches, Stops}
 use Rattle.term_core_spec.specs.Term.{Term}
 use Rattle.graph_core_spec.specs.declared.Next.{Next}
 use Rattle.graph_core_spec.specs.declared.Next.TheVariants as next
 use Rattle.graph_core_spec.specs.Graph.{Node, Basic, Graph}
-use Rattle.decompile_spec.specs.Blocks.{NodeName, Entrance, Of, Setting, Ending, Does, Goes, leaves, toward, chain, tests_of, ending_of, nodes_at, landing_of}
+use Rattle.decompile_spec.specs.Blocks.{NodeName, Entrance, Of, Setting, Ending, Does, Goes, leaves, toward, chain, branching, table_tests, does_all, tests_of, ending_of, nodes_at, landing_of}
 use Rattle.decompile_spec.specs.CodeGraph.{IsNodeAt, entrance, of_instruction, landing, IsCodeGraph}
 
 ends_long : Ending → ℕ
-ends_long (Does node) = 1
+ends_long (Does node more) = suc (length more)
 ends_long (Goes to) = 0
 
 chain_long : (f : Setting) (a j : ℕ) (tests : List Term) (ending : Ending) → length (chain f a j tests ending) ≡ length tests + ends_long ending
 unfolding chain ends_long
-chain_long f a j [] (Does node) = refl
+chain_long f a j [] (Does node more) = omega arith
 chain_long f a j [] (Goes to) = refl
 chain_long f a j (test ∷ tests) ending = omega (arith, chain_long f a (j + 1) tests ending)
 
@@ -44,24 +44,43 @@ module _ (image : Image) (entry size : ℕ) (runs : List Run) where
     same_tests i (Calls target) = refl
     same_tests i (Links target) = refl
     same_tests i Returns = refl
+    same_tests i (Switches jump) = refl
     same_tests i Stops = refl
 
-    same_ends : (a : ℕ) (i : Instr) (flow : Flow) → ends_long (ending_of g a i flow) ≡ ends_long (ending_of f a i flow)
-    unfolding ends_long ending_of
-    same_ends a i Falls = refl
-    same_ends a i (Branches target) = refl
-    same_ends a i (Jumps target) = refl
-    same_ends a i (Calls target) = refl
-    same_ends a i (Links target) = refl
-    same_ends a i Returns = refl
-    same_ends a i Stops = refl
+    same_tables : (a j : ℕ) (targets : List ℕ) → length (table_tests g a j targets) ≡ length (table_tests f a j targets)
+    unfolding table_tests
+    same_tables a j [] = refl
+    same_tables a j (target ∷ rest) = ap suc (same_tables a (j + 1) rest)
 
-    same_long : (a : ℕ) (i : Instr) (flow : Flow) → length (nodes_at g a i flow) ≡ length (nodes_at f a i flow)
+    all_long : (nodes others : List Node) → length others ≡ length nodes → ends_long (does_all others) ≡ ends_long (does_all nodes)
+    unfolding ends_long
+    all_long [] [] e = refl
+    all_long [] (other ∷ others) e = absurd (omega (arith, e))
+    all_long (node ∷ nodes) [] e = absurd (omega (arith, e))
+    all_long (node ∷ nodes) (other ∷ others) e = e
+
+    same_branch : (a : ℕ) (kept : Bool) (i : Instr) (target : ℕ) → ends_long (branching g a kept i target) ≡ ends_long (branching f a kept i target)
+    unfolding ends_long
+    same_branch a false i target = refl
+    same_branch a true i target = refl
+
+    same_ends : (a : ℕ) (kept : Bool) (i : Instr) (flow : Flow) → ends_long (ending_of g a kept i flow) ≡ ends_long (ending_of f a kept i flow)
+    unfolding ends_long ending_of
+    same_ends a kept i Falls = refl
+    same_ends a kept i (Branches target) = same_branch a kept i target
+    same_ends a kept i (Jumps target) = refl
+    same_ends a kept i (Calls target) = refl
+    same_ends a kept i (Links target) = refl
+    same_ends a kept i Returns = refl
+    same_ends a kept i (Switches jump) = all_long (table_tests f a 0 jump.targets) (table_tests g a 0 jump.targets) (same_tables a 0 jump.targets)
+    same_ends a kept i Stops = refl
+
+    same_long : (a : ℕ) (kept : Bool) (i : Instr) (flow : Flow) → length (nodes_at g a kept i flow) ≡ length (nodes_at f a kept i flow)
     unfolding nodes_at
-    same_long a i flow =
-        chain_long g a 0 (tests_of g i flow) (ending_of g a i flow)
-        ∙ omega (arith, ap (λ (ts : List Term). length ts) (same_tests i flow), same_ends a i flow)
-        ∙ sym (chain_long f a 0 (tests_of f i flow) (ending_of f a i flow))
+    same_long a kept i flow =
+        chain_long g a 0 (tests_of g i flow) (ending_of g a kept i flow)
+        ∙ omega (arith, ap (λ (ts : List Term). length ts) (same_tests i flow), same_ends a kept i flow)
+        ∙ sym (chain_long f a 0 (tests_of f i flow) (ending_of f a kept i flow))
 
     lands_too : (a : ℕ) (flow : Flow) (to : Next) → landing_of g a flow ≡ Some to → (on : Next) × (landing_of f a flow ≡ Some on)
     unfolding landing_of
@@ -79,19 +98,20 @@ module _ (image : Image) (entry size : ℕ) (runs : List Run) where
         by false h = absurd (cc)
     lands_too a (Links target) to e = absurd (cc)
     lands_too a Returns to e = absurd (cc)
+    lands_too a (Switches jump) to e = absurd (cc)
     lands_too a Stops to e = absurd (cc)
 
     -- a name that has a node in the one graph has one in the other
     there_too : (name : NodeName) (node : Node) → IsNodeAt image g name node → (other : Node) × IsNodeAt image f name other
     there_too _ _ entrance = (Basic [] (next.At (f.at (Of entry 0))), entrance)
-    there_too _ node (of_instruction a index i flow _ reach is flow_is get) =
-        let inside : index < length (nodes_at f a i flow) = omega (arith, slice_get_within (nodes_at g a i flow) index node get, same_long a i flow) in (
-          get_or (nodes_at f a i flow) index node,
-          of_instruction a index i flow (get_or (nodes_at f a i flow) index node) reach is flow_is (slice_get-get_or (nodes_at f a i flow) index node inside),
+    there_too _ node (of_instruction a index kept i flow _ reach is flow_is kept_is get) =
+        let inside : index < length (nodes_at f a kept i flow) = omega (arith, slice_get_within (nodes_at g a kept i flow) index node get, same_long a kept i flow) in (
+          get_or (nodes_at f a kept i flow) index node,
+          of_instruction a index kept i flow (get_or (nodes_at f a kept i flow) index node) reach is flow_is kept_is (slice_get-get_or (nodes_at f a kept i flow) index node inside),
         )
-    there_too _ _ (landing a count i flow to reach is flow_is long lands) =
+    there_too _ _ (landing a count kept i flow to reach is flow_is kept_is long lands) =
         let on = lands_too a flow to lands in
-        (Basic [] on.0, landing a count i flow on.0 reach is flow_is (sym (same_long a i flow) ∙ long) on.1)
+        (Basic [] on.0, landing a count kept i flow on.0 reach is flow_is kept_is (sym (same_long a kept i flow) ∙ long) on.1)
 
     module _ (graph other : Graph) (is : IsCodeGraph image f graph) (is_too : IsCodeGraph image g other) where
       pick : (k : ℕ) → (k < length graph.nodes) ⊎ (length graph.nodes ≤ k) → NodeName

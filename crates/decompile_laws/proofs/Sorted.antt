@@ -20,9 +20,9 @@ use Rattle.term_core_spec.specs.declared.BinaryOperator.TheVariants as binary
 use Rattle.term_core_spec.specs.declared.WordOperator.{WordOperator}
 use Rattle.term_core_spec.specs.declared.TernaryOperator.{TernaryOperator}
 use Rattle.term_core_spec.specs.declared.QuaternaryOperator.{QuaternaryOperator}
-use Rattle.term_core_spec.specs.Term.{Term, Unary, Binary, Ternary, Quaternary, open_term, on_words}
+use Rattle.term_core_spec.specs.Term.{Term, Unary, Binary, Ternary, Quaternary, open_term, equal, on_words}
 use Rattle.term_core_spec.specs.Sort.{sort_of, sort_of_atom, sort_of_unary, sort_of_binary, sort_of_ternary, sort_of_quaternary, sort_if, with_one, with_two, with_three, with_four}
-use Rattle.decompile_spec.specs.State.{register, memory}
+use Rattle.decompile_spec.specs.State.{register, table_index, memory}
 use Rattle.decompile_spec.specs.InstructionTerms.{number, operand, address, computed, taken, loaded, stored, is_multiple, avoids, last_written}
 
 -- ---- operators, by the sorts of their arguments
@@ -86,6 +86,11 @@ operand_sorted r = at (r == 0)
 on_words_sorted : (o : WordOperator) (x y : Term) → Is32 x → Is32 y → Is32 (on_words o x y)
 unfolding sort_of_binary
 on_words_sorted o x y ex ey = binary_sorted (binary.Word o) x y (Word W32) (Word W32) (Word W32) ex ey refl
+
+-- the test of the index of a table
+pub index_sorted : (n : ℕ) → n < 2 ^ 32 → IsTest (equal (open_term table_index) (number n))
+unfolding sort_of_binary
+index_sorted n below = binary_sorted binary.Equal (open_term table_index) (number n) (Word W32) (Word W32) Truth (open_register 32) (number_sorted n below) refl
 
 pub address_sorted : (base : ℕ) (offset : ℤ) → Is32 (address base offset)
 address_sorted base offset = on_words_sorted _ (operand base) (number (word offset)) (operand_sorted base) (word_sorted offset)

@@ -245,9 +245,9 @@ return_is previous (Fence rd source bits) address e = absurd (cc)
 return_is previous Ecall address e = absurd (cc)
 return_is previous Ebreak address e = absurd (cc)
 
--- a return to a multiple of 4
-pub return_does : (m : Machine) (back : ℕ) → read_register m 1 ≡ back → back < 2 ^ 32 → back % 4 ≡ 0 → execute (Jalr 0 1 (pos 0)) m ≡ Some (record m { pc = back })
+-- a jump to what a register has, a multiple of 4, as a return is one
+pub jump_does : (m : Machine) (r back : ℕ) → read_register m r ≡ back → back < 2 ^ 32 → back % 4 ≡ 0 → execute (Jalr 0 r (pos 0)) m ≡ Some (record m { pc = back })
 unfolding execute write_register
-return_does m back is below whole =
-    let same : step.address m 1 (pos 0) / 2 * 2 ≡ back = omega (arith, is) in
+jump_does m r back is below whole =
+    let same : step.address m r (pos 0) / 2 * 2 ≡ back = omega (arith, is) in
     ap (λ target. step.aligned 4 target (record m { pc = target })) same ∙ (rw whole refl)

@@ -1,7 +1,8 @@
 -- The graph of a function without faults is valid.
-use Rattle.std.proofs.Common.{◌≡◌, ◌∙◌, inl, inr, ℕ, zero, suc, ◌+◌, ◌*◌, ◌%◌, ◌^◌, ◌<◌, ◌≤◌, ◌==◌, Bool, true, false, cond, refl, sym, ap, subst, arith, eq-eqb, List, [], ◌∷◌, ◌++◌, length, map, Some, None}
+use Rattle.std.proofs.Common.{◌≡◌, ◌∙◌, inl, inr, ℕ, zero, suc, ◌+◌, ◌*◌, ◌%◌, ◌^◌, ◌<◌, ◌≤◌, ◌==◌, Bool, true, false, cond, refl, sym, ap, subst, arith, eq-eqb, List, [], ◌∷◌, ◌++◌, length, map, get_or, Some, None}
 use Rattle.std.specs.Prelude.{slice_get, Contains, ⊤}
 use Rattle.std.proofs.lemmas.List.{append_assoc, length-append}
+use Rattle.std.proofs.lemmas.List.Elements.{Contains-get_or}
 use Rattle.std.proofs.lemmas.Option.{slice_get_within, get_or_from_slice_get}
 use Rattle.rv_instr.specs.declared.Instr.{Instr}
 use Rattle.rv_instr.specs.declared.Instr.TheVariants as instr
@@ -9,26 +10,31 @@ use Rattle.rv_machine_spec.specs.Arithmetic.{word, of_immediate, of_shift}
 use Rattle.rv_machine_spec.specs.Machine.{past}
 use Rattle.elf_read_spec.specs.Image.{Image}
 use Rattle.memory_spec.specs.Runs.{Run}
-use Rattle.code_reach_spec.specs.Code.{InRange, Flow, Falls, Branches, Jumps, Calls, Links, Returns, Stops, instr_at, flow_at, nexts_of, aligned, IsReachable, here, next}
+use Rattle.code_reach_spec.specs.Code.{InRange, Flow, Falls, Branches, Jumps, Calls, Links, Returns, Switches, Stops, TableJump, most_targets, instr_at, flow_at, nexts_of, aligned, IsReachable, here, next}
 use Rattle.code_reach_spec.specs.Faults.{HasNoFault}
+use Rattle.rv_instr.specs.declared.BranchTest.{BranchTest}
+use Rattle.rv_instr.specs.declared.BranchTest.TheVariants as branch
 use Rattle.rv_instr.specs.declared.LoadKind.{LoadKind}
 use Rattle.rv_instr.specs.declared.LoadKind.TheVariants as load_kind
 use Rattle.rv_instr.specs.declared.StoreKind.{StoreKind}
 use Rattle.rv_instr.specs.declared.StoreKind.TheVariants as store_kind
-use Rattle.term_core_spec.specs.Term.{Term, truth}
+use Rattle.term_core_spec.specs.Term.{Term, truth, open_term, equal}
 use Rattle.term_core_spec.specs.Sort.{sort_of, sort_of_atom, sort_of_binary}
 use Rattle.graph_core_spec.specs.declared.Next.{Next}
 use Rattle.graph_core_spec.specs.declared.Next.TheVariants as to
 use Rattle.graph_core_spec.specs.Graph.{Binding, IsBinding, AreBindings, Node, Basic, Cond, Call, Graph, IsNext, IsNode, IsValid}
-use Rattle.decompile_spec.specs.State.{register, entry_register}
+use Rattle.decompile_spec.specs.State.{register, entry_register, table_index}
 use Rattle.decompile_spec.specs.InstructionTerms.{number, operand, address, put, effects, access_tests, load_tests, aligned_for, avoids, last_written, returns_home, branch_test}
-use Rattle.decompile_spec.specs.Blocks.{NodeName, Entrance, Of, Following, call_nodes, tail_call_nodes, Setting, Ending, Does, Goes, toward, onward, chain, tests_of, ending_of, nodes_at, landing_of, leaves, entry_binding, other_registers, call_inputs, tail_inputs}
-use Rattle.decompile_spec.specs.CodeGraph.{IsNodeAt, entrance, of_instruction, landing, IsCodeGraph}
-use Rattle.decompile_laws.proofs.Reached.{first_in, second_in, is_aligned, has_instruction, has_flow, code_there}
+use Rattle.decompile_spec.specs.Blocks.{NodeName, Entrance, Of, Following, call_nodes, tail_call_nodes, Setting, Ending, Does, Goes, bounded_by, toward, onward, chain, branching, next_test, table_tests, does_all, tests_of, ending_of, nodes_at, landing_of, leaves, entry_binding, other_registers, call_inputs, tail_inputs}
+use Rattle.decompile_spec.specs.CodeGraph.{IsKept, IsNodeAt, entrance, of_instruction, landing, IsCodeGraph}
+use Rattle.decompile_laws.proofs.Reached.{first_in, second_in, is_aligned, all_aligned, has_instruction, code_there}
+use Rattle.decompile_laws.proofs.Switching.{has_flow}
+use Rattle.decompile_laws.proofs.KeptBranches.{kept_or_not}
+use Rattle.decompile_laws.proofs.RunUpsOf.{table_few}
 use Rattle.decompile_laws.proofs.Fields.{AreFields, fields_at}
-use Rattle.decompile_laws.proofs.Nodes.{test_in, last_in, begins, call_long, tail_call_long, toward_there, toward_either}
+use Rattle.decompile_laws.proofs.Nodes.{test_in, last_in, kept_node, table_node, begins, call_long, tail_call_long, toward_there, toward_either}
 use Rattle.decompile_laws.specs.Together.{is_node}
-use Rattle.decompile_laws.proofs.Sorted.{Is32, IsTest, number_sorted, word_sorted, open_register, operand_sorted, address_sorted, computed_sorted, taken_sorted, stored_sorted, loaded_sorted, last_sorted, multiple_sorted, avoids_sorted}
+use Rattle.decompile_laws.proofs.Sorted.{Is32, IsTest, number_sorted, index_sorted, word_sorted, open_register, operand_sorted, address_sorted, computed_sorted, taken_sorted, stored_sorted, loaded_sorted, last_sorted, multiple_sorted, avoids_sorted}
 
 -- ---- bindings and tests of an instruction
 
@@ -135,6 +141,29 @@ branch_sorted (instr.Fence rd source bits) = truth_sorted false
 branch_sorted instr.Ecall = truth_sorted false
 branch_sorted instr.Ebreak = truth_sorted false
 
+bounded_sorted : (i : Instr) → Is32 (bounded_by i)
+bounded_sorted (instr.Branch test left right offset) = by test
+  where
+    by : (t : BranchTest) → Is32 (bounded_by (instr.Branch t left right offset))
+    by branch.LessUnsigned = operand_sorted right
+    by branch.GreaterOrEqualUnsigned = operand_sorted left
+    by branch.Equal = number_sorted 0 (omega arith)
+    by branch.NotEqual = number_sorted 0 (omega arith)
+    by branch.Less = number_sorted 0 (omega arith)
+    by branch.GreaterOrEqual = number_sorted 0 (omega arith)
+bounded_sorted (instr.Lui rd imm) = number_sorted 0 (omega arith)
+bounded_sorted (instr.Auipc rd imm) = number_sorted 0 (omega arith)
+bounded_sorted (instr.Jal rd offset) = number_sorted 0 (omega arith)
+bounded_sorted (instr.Jalr rd base offset) = number_sorted 0 (omega arith)
+bounded_sorted (instr.Load kind rd base offset) = number_sorted 0 (omega arith)
+bounded_sorted (instr.Store kind base source offset) = number_sorted 0 (omega arith)
+bounded_sorted (instr.Immediate operation rd source imm) = number_sorted 0 (omega arith)
+bounded_sorted (instr.Shift operation rd source amount) = number_sorted 0 (omega arith)
+bounded_sorted (instr.Arithmetic operation rd left right) = number_sorted 0 (omega arith)
+bounded_sorted (instr.Fence rd source bits) = number_sorted 0 (omega arith)
+bounded_sorted instr.Ecall = number_sorted 0 (omega arith)
+bounded_sorted instr.Ebreak = number_sorted 0 (omega arith)
+
 load_sorted : (kind : LoadKind) (a : Term) → Is32 a → AreTests (load_tests kind a)
 load_sorted load_kind.Byte a ea = no_tests
 load_sorted load_kind.Half a ea = one_test _ (multiple_sorted a ea 1 (omega arith))
@@ -179,6 +208,7 @@ tests_sorted f within some i (Jumps target) = at (leaves f target)
 tests_sorted f within some i (Calls target) = no_tests
 tests_sorted f within some i (Links target) = no_tests
 tests_sorted f within some i Returns = one_test returns_home home_sorted
+tests_sorted f within some i (Switches jump) = no_tests
 tests_sorted f within some i Stops = no_tests
 
 -- ---- nodes
@@ -186,13 +216,26 @@ tests_sorted f within some i Stops = no_tests
 after_first : (a target : ℕ) → target % 4 ≡ 0 → Contains (a ∷ aligned target) target
 after_first a target e = rw (eq-eqb (target % 4) 0 e) (second_in a target)
 
+-- each node is one of a graph of so many
+AreNodes : ℕ → List Node → Type 0
+AreNodes count nodes = (k : ℕ) (node : Node) → slice_get nodes k ≡ Some node → IsNode count node
+
+no_nodes : (count : ℕ) → AreNodes count []
+unfolding AreNodes
+no_nodes count k node e = absurd (cc)
+
+first_and_more : (count : ℕ) (first : Node) (more : List Node) → IsNode count first → AreNodes count more → AreNodes count (first ∷ more)
+unfolding AreNodes
+first_and_more count first more is are zero node e = let same : first ≡ node = cc in subst (IsNode count) same is
+first_and_more count first more is are (suc k) node e = are k node e
+
 IsEnding : ℕ → Ending → Type 0
-IsEnding count (Does node) = IsNode count node
+IsEnding count (Does node more) = IsNode count node × AreNodes count more
 IsEnding count (Goes to) = IsNext count to
 
 first_node : (f : Setting) (a : ℕ) (tests : List Term) (ending : Ending) → is_node tests ending ≡ true → (node : Node) × (slice_get (chain f a 0 tests ending) 0 ≡ Some node)
 unfolding chain
-first_node f a [] (Does node) e = (node, refl)
+first_node f a [] (Does node more) e = (node, refl)
 first_node f a [] (Goes to) e = absurd (cc)
 first_node f a (test ∷ tests) ending e = (Cond test (onward f a 1 tests ending) to.Err, refl)
 
@@ -209,8 +252,9 @@ module _ (image : Image) (f : Setting) (graph : Graph) (no_fault : HasNoFault im
   first_below target reach =
       let found = has_instruction image f.entry f.size target no_fault reach in
       let flow = has_flow image f.entry target found.0 found.1 in
-      let node = first_node f target (tests_of f found.0 flow.0) (ending_of f target found.0 flow.0) (begins f target found.0 flow.0) in
-      at_below (Of target 0) node.0 (of_instruction target 0 found.0 flow.0 node.0 reach found.1 flow.1 node.1)
+      let kept = kept_or_not image f.entry f.size no_fault target reach in
+      let node = first_node f target (tests_of f found.0 flow.0) (ending_of f target kept.0 found.0 flow.0) (begins f target kept.0 found.0 flow.0) in
+      at_below (Of target 0) node.0 (of_instruction target 0 kept.0 found.0 flow.0 node.0 reach found.1 flow.1 kept.1 node.1)
 
   toward_below : (target : ℕ) → (target % 4 ≡ 0 → InRange f.entry f.size target → IsReachable image f.entry f.size target) → IsNext count (toward f target)
   toward_below target reach = elim (toward_either f target) [
@@ -225,10 +269,11 @@ module _ (image : Image) (f : Setting) (graph : Graph) (no_fault : HasNoFault im
       at [] e = absurd (((is.runs_are.exactly run).0 among).not_empty e)
       at (b ∷ bytes) e = let long : length run.bytes ≡ length (b ∷ bytes) = ap (λ (xs : List ℕ). length xs) e in omega (arith, long)
 
-  module _ (a : ℕ) (i : Instr) (flow : Flow) (reach : IsReachable image f.entry f.size a) (there : instr_at image a ≡ Some i) (flow_is : flow_at image f.entry a ≡ Some flow) where
-    fine_error : IsEnding count (Does (Basic [] to.Err))
+  module _ (a : ℕ) (kept : Bool) (i : Instr) (flow : Flow) (reach : IsReachable image f.entry f.size a) (there : instr_at image a ≡ Some i)
+      (flow_is : flow_at image f.entry a ≡ Some flow) (kept_is : IsKept image f.entry f.size a kept) where
+    fine_error : IsEnding count (Does (Basic [] to.Err) [])
     unfolding IsEnding
-    fine_error = (none_bind, tt)
+    fine_error = ((none_bind, tt), no_nodes count)
 
     on_next : (way : Flow) → flow_at image f.entry a ≡ Some way → Contains (nexts_of a way) (a + 4) → IsNext count (toward f (a + 4))
     on_next way way_is among = toward_below (a + 4) (λ e inside. next a (a + 4) way reach way_is among inside)
@@ -236,60 +281,126 @@ module _ (image : Image) (f : Setting) (graph : Graph) (no_fault : HasNoFault im
     on_target : (target : ℕ) (way : Flow) → flow_at image f.entry a ≡ Some way → (target % 4 ≡ 0 → Contains (nexts_of a way) target) → IsNext count (toward f target)
     on_target target way way_is among = toward_below target (λ e inside. next a target way reach way_is (among e) inside)
 
-    landing_below : (way : Flow) (on : Next) (own : ℕ) → flow_at image f.entry a ≡ Some way → length (nodes_at f a i way) ≡ own → landing_of f a way ≡ Some on → f.at (Following a own) < count
-    landing_below way on own way_is long lands = at_below (Following a own) (Basic [] on) (landing a own i way on reach there way_is long lands)
+    landing_below : (way : Flow) (on : Next) (own : ℕ) → flow_at image f.entry a ≡ Some way → length (nodes_at f a kept i way) ≡ own → landing_of f a way ≡ Some on → f.at (Following a own) < count
+    landing_below way on own way_is long lands = at_below (Following a own) (Basic [] on) (landing a own kept i way on reach there way_is kept_is long lands)
 
-    ending_fine : (way : Flow) → flow_at image f.entry a ≡ Some way → IsEnding count (ending_of f a i way)
+    -- the nodes of a branch: where it keeps an index, it has one more
+    branch_fine : (target : ℕ) → flow_at image f.entry a ≡ Some (Branches target) → IsEnding count (branching f a kept i target)
+    unfolding IsEnding
+    branch_fine target way_is = by kept refl
+      where
+        on : IsNext count (toward f (a + 4))
+        on = on_next (Branches target) way_is (first_in (a + 4) (aligned target))
+
+        taken : IsNext count (toward f target)
+        taken = on_target target (Branches target) way_is (after_first (a + 4) target)
+
+        by : (k : Bool) → kept ≡ k → IsEnding count (branching f a k i target)
+        by false is_kept = ((branch_sorted i, taken, on), no_nodes count)
+        by true is_kept =
+            let keeping = subst (λ (x : Bool). IsKept image f.entry f.size a x) is_kept kept_is in (
+              (branch_sorted i, taken, at_below (Of a 1) _ (of_instruction a 1 true i (Branches target) _ reach there way_is keeping (kept_node f a i target))),
+              first_and_more count (Basic (record { variable = table_index; term = bounded_by i } ∷ []) (toward f (a + 4))) [] (one_binds _ (bounded_sorted i), on) (no_nodes count),
+            )
+
+    -- the tests of a table
+    all_fine : (nodes : List Node) → AreNodes count nodes → IsEnding count (does_all nodes)
+    unfolding IsEnding AreNodes
+    all_fine [] are = fine_error
+    all_fine (node ∷ more) are = (are 0 node refl, λ k other e. are (suc k) other e)
+
+    tables_fine : (jump : TableJump) → flow_at image f.entry a ≡ Some (Switches jump) → IsEnding count (does_all (table_tests f a 0 jump.targets))
+    unfolding table_tests
+    tables_fine jump way_is = all_fine (table_tests f a 0 jump.targets) (from 0 jump.targets (λ k within. (omega (arith, within), ap (λ j. get_or jump.targets j 0) {x = 0 + k} {y = k} (omega arith))) (omega arith))
+      where
+        -- the next test, if there is one
+        next_fine : (n : ℕ) (rest : List ℕ) → n + length rest ≡ length jump.targets → IsNext count (next_test f a n rest)
+        next_fine n [] long = tt
+        next_fine n (target ∷ rest) long =
+            let node = table_node f a kept i jump n (omega (arith, long)) in
+            at_below (Of a n) node.0 (of_instruction a n kept i (Switches jump) node.0 reach there way_is kept_is node.1)
+
+        from : (n : ℕ) (targets : List ℕ) → ((k : ℕ) → k < length targets → (n + k < length jump.targets) × (get_or jump.targets (n + k) 0 ≡ get_or targets k 0))
+            → n + length targets ≡ length jump.targets → AreNodes count (table_tests f a n targets)
+        from n [] same long = no_nodes count
+        from n (target ∷ rest) same long = first_and_more count _ (table_tests f a (n + 1) rest)
+            (index_sorted n (omega (arith, long, few)), on_target target (Switches jump) way_is (λ even. all_aligned jump.targets target here even), next_fine (n + 1) rest (omega (arith, long)))
+            (from (n + 1) rest later (omega (arith, long)))
+          where
+            few : length jump.targets ≤ most_targets
+            few = table_few image f.entry f.size no_fault a jump reach way_is
+
+            here : Contains jump.targets target
+            here =
+                let first = same 0 (omega arith) in
+                subst (Contains jump.targets) first.1 (Contains-get_or jump.targets (n + 0) 0 first.0)
+
+            later : (k : ℕ) → k < length rest → (n + 1 + k < length jump.targets) × (get_or jump.targets (n + 1 + k) 0 ≡ get_or rest k 0)
+            later k within =
+                let next_is = same (suc k) (omega (arith, within)) in
+                let at : n + 1 + k ≡ n + suc k = omega arith in
+                (omega (arith, next_is.0), ap (λ j. get_or jump.targets j 0) at ∙ next_is.1)
+
+    ending_fine : (way : Flow) → flow_at image f.entry a ≡ Some way → IsEnding count (ending_of f a kept i way)
     unfolding IsEnding ending_of landing_of
-    ending_fine Falls way_is = (effects_bind a i (fields_at image a i there), on_next Falls way_is (first_in (a + 4) []))
-    ending_fine (Branches target) way_is =
-        (branch_sorted i, on_target target (Branches target) way_is (after_first (a + 4) target), on_next (Branches target) way_is (first_in (a + 4) (aligned target)))
+    ending_fine Falls way_is = ((effects_bind a i (fields_at image a i there), on_next Falls way_is (first_in (a + 4) [])), no_nodes count)
+    ending_fine (Branches target) way_is = branch_fine target way_is
     ending_fine (Jumps target) way_is = at (leaves f target) refl
       where
-        at : (b : Bool) → leaves f target ≡ b → IsEnding count (Does (cond b (Call (f.graph_number target) tail_inputs [] (f.at (Following a tail_call_nodes))) (Basic [] (toward f target))))
-        at true e = (tail_binds, none_bind, landing_below (Jumps target) to.Ret tail_call_nodes way_is (tail_call_long f a i target e) (ap (λ (b : Bool). cond b (Some to.Ret) None) e))
-        at false e = (none_bind, on_target target (Jumps target) way_is (is_aligned target))
+        at : (b : Bool) → leaves f target ≡ b → IsEnding count (Does (cond b (Call (f.graph_number target) tail_inputs [] (f.at (Following a tail_call_nodes))) (Basic [] (toward f target))) [])
+        at true e = (
+          (tail_binds, none_bind, landing_below (Jumps target) to.Ret tail_call_nodes way_is (tail_call_long f a kept i target e) (ap (λ (b : Bool). cond b (Some to.Ret) None) e)),
+          no_nodes count,
+        )
+        at false e = ((none_bind, on_target target (Jumps target) way_is (is_aligned target)), no_nodes count)
     ending_fine (Calls target) way_is = at (target % 4 == 0) refl
       where
-        at : (b : Bool) → (target % 4 == 0) ≡ b → IsEnding count (Does (cond b (Call (f.graph_number target) (call_inputs (past a 4)) [] (f.at (Following a call_nodes))) (Basic [] to.Err)))
-        at true e = (call_binds (past a 4) (omega arith), none_bind, landing_below (Calls target) (toward f (a + 4)) call_nodes way_is (call_long f a i target) (ap (λ (b : Bool). cond b (Some (toward f (a + 4))) None) e))
+        at : (b : Bool) → (target % 4 == 0) ≡ b → IsEnding count (Does (cond b (Call (f.graph_number target) (call_inputs (past a 4)) [] (f.at (Following a call_nodes))) (Basic [] to.Err)) [])
+        at true e = (
+          (
+            call_binds (past a 4) (omega arith),
+            none_bind,
+            landing_below (Calls target) (toward f (a + 4)) call_nodes way_is (call_long f a kept i target) (ap (λ (b : Bool). cond b (Some (toward f (a + 4))) None) e),
+          ),
+          no_nodes count,
+        )
         at false e = fine_error
     ending_fine (Links target) way_is = fine_error
     ending_fine Returns way_is = tt
+    ending_fine (Switches jump) way_is = tables_fine jump way_is
     ending_fine Stops way_is = fine_error
 
     last_fine : (j k : ℕ) (node : Node) (ending : Ending) → IsEnding count ending → slice_get (chain f a j [] ending) k ≡ Some node → IsNode count node
-    unfolding chain IsEnding
-    last_fine j zero node (Does one) fine e = let same : one ≡ node = cc in subst (IsNode count) same fine
-    last_fine j (suc k) node (Does one) fine e = absurd (cc)
+    unfolding chain IsEnding AreNodes
+    last_fine j k node (Does one more) fine e = first_and_more count one more fine.0 fine.1 k node e
     last_fine j k node (Goes on) fine e = absurd (cc)
 
-    onward_fine : (passed : List Term) (test : Term) (left : List Term) (ending : Ending) → tests_of f i flow ≡ passed ++ test ∷ left → ending_of f a i flow ≡ ending → IsEnding count ending
+    onward_fine : (passed : List Term) (test : Term) (left : List Term) (ending : Ending) → tests_of f i flow ≡ passed ++ test ∷ left → ending_of f a kept i flow ≡ ending → IsEnding count ending
         → IsNext count (onward f a (length passed + 1) left ending)
     unfolding IsEnding nodes_at
     onward_fine passed test [] (Goes on) tests ends fine = fine
-    onward_fine passed test [] (Does node) tests ends fine =
-        at_below (Of a (length passed + 1)) node (of_instruction a (length passed + 1) i flow node reach there flow_is
-        (ap (λ ts. slice_get (chain f a 0 ts (ending_of f a i flow)) (length passed + 1)) tests
+    onward_fine passed test [] (Does node more) tests ends fine =
+        at_below (Of a (length passed + 1)) node (of_instruction a (length passed + 1) kept i flow node reach there flow_is kept_is
+        (ap (λ ts. slice_get (chain f a 0 ts (ending_of f a kept i flow)) (length passed + 1)) tests
         ∙ ap (λ (e : Ending). slice_get (chain f a 0 (passed ++ test ∷ []) e) (length passed + 1)) ends
-        ∙ ap (slice_get (chain f a 0 (passed ++ test ∷ []) (Does node))) {x = length passed + 1} {y = length (passed ++ test ∷ [])} (omega (arith, length-append passed (test ∷ [])))
-        ∙ last_in f a 0 (passed ++ test ∷ []) node))
+        ∙ ap (slice_get (chain f a 0 (passed ++ test ∷ []) (Does node more))) {x = length passed + 1} {y = length (passed ++ test ∷ [])} (omega (arith, length-append passed (test ∷ [])))
+        ∙ last_in f a 0 (passed ++ test ∷ []) node more))
     onward_fine passed test (second ∷ left) ending tests ends fine =
-        at_below (Of a (length passed + 1)) _ (of_instruction a (length passed + 1) i flow _ reach there flow_is
-        (ap (λ ts. slice_get (chain f a 0 ts (ending_of f a i flow)) (length passed + 1)) (tests ∙ sym (append_assoc passed (test ∷ []) (second ∷ left)))
-        ∙ ap (slice_get (chain f a 0 ((passed ++ test ∷ []) ++ second ∷ left) (ending_of f a i flow))) {x = length passed + 1} {y = length (passed ++ test ∷ [])} (omega (arith, length-append passed (test ∷ [])))
-        ∙ test_in f a 0 (passed ++ test ∷ []) second left (ending_of f a i flow)))
+        at_below (Of a (length passed + 1)) _ (of_instruction a (length passed + 1) kept i flow _ reach there flow_is kept_is
+        (ap (λ ts. slice_get (chain f a 0 ts (ending_of f a kept i flow)) (length passed + 1)) (tests ∙ sym (append_assoc passed (test ∷ []) (second ∷ left)))
+        ∙ ap (slice_get (chain f a 0 ((passed ++ test ∷ []) ++ second ∷ left) (ending_of f a kept i flow))) {x = length passed + 1} {y = length (passed ++ test ∷ [])} (omega (arith, length-append passed (test ∷ [])))
+        ∙ test_in f a 0 (passed ++ test ∷ []) second left (ending_of f a kept i flow)))
 
     chain_fine : (left passed : List Term) → tests_of f i flow ≡ passed ++ left → AreTests left → (k : ℕ) (node : Node)
-        → slice_get (chain f a (length passed) left (ending_of f a i flow)) k ≡ Some node → IsNode count node
+        → slice_get (chain f a (length passed) left (ending_of f a kept i flow)) k ≡ Some node → IsNode count node
     unfolding chain AreTests
-    chain_fine [] passed tests sorted k node e = last_fine (length passed) k node (ending_of f a i flow) (ending_fine flow flow_is) e
+    chain_fine [] passed tests sorted k node e = last_fine (length passed) k node (ending_of f a kept i flow) (ending_fine flow flow_is) e
     chain_fine (test ∷ left) passed tests sorted zero node e =
-        let same : Cond test (onward f a (length passed + 1) left (ending_of f a i flow)) to.Err ≡ node = cc in
-        subst (IsNode count) same (sorted.0, onward_fine passed test left (ending_of f a i flow) tests refl (ending_fine flow flow_is), tt)
+        let same : Cond test (onward f a (length passed + 1) left (ending_of f a kept i flow)) to.Err ≡ node = cc in
+        subst (IsNode count) same (sorted.0, onward_fine passed test left (ending_of f a kept i flow) tests refl (ending_fine flow flow_is), tt)
     chain_fine (test ∷ left) passed tests sorted (suc k) node e =
         chain_fine left (passed ++ test ∷ []) (tests ∙ sym (append_assoc passed (test ∷ []) left)) sorted.1 k node
-        (ap (λ j. slice_get (chain f a j left (ending_of f a i flow)) k) {x = length (passed ++ test ∷ [])} {y = length passed + 1} (omega (arith, length-append passed (test ∷ []))) ∙ e)
+        (ap (λ j. slice_get (chain f a j left (ending_of f a kept i flow)) k) {x = length (passed ++ test ∷ [])} {y = length passed + 1} (omega (arith, length-append passed (test ∷ []))) ∙ e)
 
   landing_fine : (a : ℕ) (flow : Flow) (on : Next) → IsReachable image f.entry f.size a → flow_at image f.entry a ≡ Some flow → landing_of f a flow ≡ Some on → IsNext count on
   unfolding landing_of
@@ -308,14 +419,15 @@ module _ (image : Image) (f : Setting) (graph : Graph) (no_fault : HasNoFault im
       at false e = absurd (cc)
   landing_fine a (Links target) on reach flow_is e = absurd (cc)
   landing_fine a Returns on reach flow_is e = absurd (cc)
+  landing_fine a (Switches jump) on reach flow_is e = absurd (cc)
   landing_fine a Stops on reach flow_is e = absurd (cc)
 
   node_fine : (place : NodeName) (node : Node) → IsNodeAt image f place node → IsNode count node
   unfolding nodes_at
   node_fine _ _ entrance = (none_bind, first_below f.entry (here (code_there image f.entry f.size no_fault)))
-  node_fine _ node (of_instruction a index i flow _ reach there flow_is get) =
-      chain_fine a i flow reach there flow_is (tests_of f i flow) [] refl (tests_sorted f within some i flow) index node get
-  node_fine _ _ (landing a own i flow on reach there flow_is long lands) = (none_bind, landing_fine a flow on reach flow_is lands)
+  node_fine _ node (of_instruction a index kept i flow _ reach there flow_is kept_is get) =
+      chain_fine a kept i flow reach there flow_is kept_is (tests_of f i flow) [] refl (tests_sorted f within some i flow) index node get
+  node_fine _ _ (landing a own kept i flow on reach there flow_is kept_is long lands) = (none_bind, landing_fine a flow on reach flow_is lands)
 
   pub code_graph_valid : IsValid graph
   code_graph_valid = record {

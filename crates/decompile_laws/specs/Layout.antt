@@ -1,5 +1,5 @@
 -- A layout: the landing node at the entry has the number 0, and the nodes of the instructions follow by address.
-use Rattle.std.specs.Prelude.{◌≡◌, ℕ, ◌+◌, ⊤, List, [], ◌∷◌, ◌++◌, length, map, Contains, Option, Some, None}
+use Rattle.std.specs.Prelude.{◌≡◌, ℕ, ◌+◌, ⊤, List, [], ◌∷◌, ◌++◌, length, map, Contains, Bool, Option, Some, None}
 use Rattle.std.specs.List.Sorted.{IsStrictlyIncreasing}
 use Rattle.rv_instr.specs.declared.Instr.{Instr}
 use Rattle.elf_read_spec.specs.Image.{Image}
@@ -9,13 +9,14 @@ use Rattle.graph_core_spec.specs.declared.Next.{Next}
 use Rattle.graph_core_spec.specs.declared.Next.TheVariants as next
 use Rattle.graph_core_spec.specs.Graph.{Node, Basic, Graph}
 use Rattle.decompile_spec.specs.Blocks.{NodeName, Entrance, Of, Following, Setting, nodes_at, landing_of}
-use Rattle.decompile_spec.specs.CodeGraph.{IsCodeGraph}
+use Rattle.decompile_spec.specs.CodeGraph.{IsKept, IsCodeGraph}
 
 -- an instruction that is reached
 pub record Item : Type 0 where
   pub address : ℕ
   pub instruction : Instr
   pub flow : Flow
+  pub keeps : Bool  -- it keeps the index of a table
 
 abbrev pub landing_node : Option Next → List Node
 landing_node None = []
@@ -23,7 +24,7 @@ landing_node (Some to) = Basic [] to ∷ []
 
 -- its nodes, and its landing node
 abbrev pub block : Setting → Item → List Node
-block f item = nodes_at f item.address item.instruction item.flow ++ landing_node (landing_of f item.address item.flow)
+block f item = nodes_at f item.address item.keeps item.instruction item.flow ++ landing_node (landing_of f item.address item.flow)
 
 abbrev pub blocks : Setting → List Item → List Node
 blocks f [] = []
@@ -53,6 +54,7 @@ pub record AreItems (image : Image) (entry size : ℕ) (items : List Item) : Typ
   pub reached : (item : Item) → Contains items item → IsReachable image entry size item.address
   pub instructions : (item : Item) → Contains items item → instr_at image item.address ≡ Some item.instruction
   pub flows : (item : Item) → Contains items item → flow_at image entry item.address ≡ Some item.flow
+  pub kept : (item : Item) → Contains items item → IsKept image entry size item.address item.keeps
   pub all : (address : ℕ) → IsReachable image entry size address → (item : Item) × Contains items item × (item.address ≡ address)
 
 abbrev pub LaidAreCodeGraphs : Type 0

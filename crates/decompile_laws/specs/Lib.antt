@@ -1,4 +1,5 @@
 pub mod Evaluation
 pub mod Together
 pub mod Layout
+pub mod RunUps
 pub mod Valid

@@ -1,23 +1,25 @@
 -- How a machine corresponds to a run of the graphs of its code.
-use Rattle.std.specs.Prelude.{◌≡◌, ◌≢◌, ◌⊎◌, ℕ, zero, suc, ◌+◌, ◌-◌, ◌*◌, ◌%◌, ◌^◌, ◌≤◌, ◌==◌, if◌then◌else◌, Bool, true, false, List, [], ◌∷◌, ◌++◌, length, Option, Some, IsSome, slice_get}
+use Rattle.std.specs.Prelude.{◌≡◌, ◌≢◌, ◌⊎◌, ℕ, zero, suc, ◌+◌, ◌-◌, ◌*◌, ◌%◌, ◌^◌, ◌<◌, ◌≤◌, ◌==◌, if◌then◌else◌, Bool, true, false, List, [], ◌∷◌, ◌++◌, length, Option, Some, IsSome, slice_get}
 use Rattle.rv_instr.specs.declared.Instr.{Instr}
 use Rattle.rv_instr.specs.declared.Instr.TheVariants.{Auipc}
 use Rattle.rv_machine_spec.specs.Machine.{Machine, IsMachine, past, read_register}
 use Rattle.rv_machine_spec.specs.Step.{after}
 use Rattle.elf_read_spec.specs.Image.{Image, size_at}
 use Rattle.memory_spec.specs.Runs.{Run}
-use Rattle.code_reach_spec.specs.Code.{InRange, Flow, Jumps, Calls, instr_at, instr_before, flow_at, IsReachable, Reaches, HoldsFixed}
+use Rattle.code_reach_spec.specs.Code.{InRange, Flow, Branches, Jumps, Calls, Switches, TableJump, instr_at, instr_before, flow_at, IsReachable, Reaches, HoldsFixed}
 use Rattle.code_reach_spec.specs.Faults.{is_pair, ReachesNoFault}
 use Rattle.term_core_spec.specs.declared.Width.TheVariants.{W32}
 use Rattle.term_core_spec.specs.Term.{Term}
-use Rattle.term_core_spec.specs.Value.{Number, Assignment}
+use Rattle.term_core_spec.specs.Value.{Number, Assignment, value}
 use Rattle.graph_core_spec.specs.Graph.{Node, Graph, Graphs}
-use Rattle.graph_core_spec.specs.Run.{Waiting, State, Running, Returned, Failed, leave, step, system_of}
+use Rattle.graph_core_spec.specs.Run.{Waiting, State, Running, Returned, Failed, leave, step, system_of, is_truth}
 use Rattle.graph_core_spec.specs.TransitionSystem as walk
-use Rattle.decompile_spec.specs.State.{register, entry_register, Alike}
+use Rattle.decompile_spec.specs.State.{register, entry_register, table_index, Alike}
+use Rattle.decompile_spec.specs.InstructionTerms.{branch_test}
 use Rattle.decompile_laws.specs.Evaluation.{all_hold}
 use Rattle.decompile_spec.specs.Blocks.{NodeName, Entrance, Of, Following, Setting, Ending, Does, Goes, call_nodes, tail_call_nodes, leaves_range, tests_of, ending_of}
-use Rattle.decompile_spec.specs.CodeGraph.{IsNodeAt, IsCodeGraph}
+use Rattle.decompile_spec.specs.CodeGraph.{IsKept, IsNodeAt, IsCodeGraph}
+use Rattle.decompile_laws.specs.RunUps.{IsInRunUps}
 
 -- ---- the graphs of a set of functions
 
@@ -40,7 +42,7 @@ pub record AreCodeGraphs (image : Image) (entry : ℕ) (n : Numbering) (graphs :
 -- some node comes next, before these tests and this ending
 abbrev pub is_node : List Term → Ending → Bool
 is_node [] (Goes to) = false
-is_node [] (Does node) = true
+is_node [] (Does node further) = true
 is_node (test ∷ tests) ending = true
 
 -- at the JALR of an AUIPC pair, its register has what the AUIPC before it put there
@@ -53,16 +55,28 @@ abbrev pub begun_by : List Term → ℕ
 begun_by [] = 0
 begun_by (test ∷ passed) = 1
 
--- the node of a function at which a run is, where the machine is at pc: the landing node at the entry, that after
--- a call, or a node of the instruction at pc, whose tests before that node hold; and how many instructions it is in
+-- past the first node of an instruction without tests: at the node after a branch that falls through, which keeps the index of
+-- a table; or at a test of an index after the first
+pub data IsFurther (image : Image) (f : Setting) (values : Assignment) (pc : ℕ) : (index : ℕ) → Type 0 where
+  at_kept : (target : ℕ) (i : Instr) → IsReachable image f.entry f.size pc → instr_at image pc ≡ Some i
+      → flow_at image f.entry pc ≡ Some (Branches target) → IsKept image f.entry f.size pc true
+      → is_truth (value values (branch_test i)) ≡ false → IsFurther image f values pc 1
+  in_table : (jump : TableJump) (test index : ℕ) → IsReachable image f.entry f.size pc → flow_at image f.entry pc ≡ Some (Switches jump)
+      → 0 < test → test < length jump.targets → values table_index ≡ Number W32 index → test ≤ index
+      → IsFurther image f values pc test
+
+-- the node of a function at which a run is, where the machine is at pc: the landing node at the entry; that after a call;
+-- a node of the instruction at pc, whose tests before that node hold; or one further; and how many instructions it is in
 pub data IsAt (image : Image) (f : Setting) (values : Assignment) (pc : ℕ) : (node begun : ℕ) → Type 0 where
   at_entrance : pc ≡ f.entry → IsAt image f values pc (f.at Entrance) 0
   at_landing : (address target : ℕ) → IsReachable image f.entry f.size address → flow_at image f.entry address ≡ Some (Calls target)
       → target % 4 ≡ 0 → pc ≡ past address 4 → IsAt image f values pc (f.at (Following address call_nodes)) 0
-  in_instruction : (i : Instr) (flow : Flow) (passed left : List Term) → IsReachable image f.entry f.size pc → instr_at image pc ≡ Some i
-      → flow_at image f.entry pc ≡ Some flow → IsAfterAuipc values (instr_before image f.entry pc) pc i flow
+  in_instruction : (kept : Bool) (i : Instr) (flow : Flow) (passed left : List Term) → IsReachable image f.entry f.size pc
+      → instr_at image pc ≡ Some i → flow_at image f.entry pc ≡ Some flow → IsKept image f.entry f.size pc kept
+      → IsAfterAuipc values (instr_before image f.entry pc) pc i flow
       → tests_of f i flow ≡ passed ++ left → all_hold values passed ≡ true
-      → is_node left (ending_of f pc i flow) ≡ true → IsAt image f values pc (f.at (Of pc (length passed))) (begun_by passed)
+      → is_node left (ending_of f pc kept i flow) ≡ true → IsAt image f values pc (f.at (Of pc (length passed))) (begun_by passed)
+  further_in : (index : ℕ) → IsFurther image f values pc index → IsAt image f values pc (f.at (Of pc index)) 1
 
 -- the register x1 with which a function began
 abbrev pub Began : Assignment → ℕ → Type 0
@@ -104,7 +118,8 @@ pub data IsTailLanding (image : Image) (entry : ℕ) (n : Numbering) : (graph no
 -- the machine has not done yet as `begun` is
 pub data Corresponds (image : Image) (entry : ℕ) (n : Numbering) (home : ℕ) (m : Machine) : (begun : ℕ) → State → Type 0 where
   corresponds : (function size node begun back : ℕ) (values : Assignment) (below : List Waiting) → Reaches image entry function
-      → size_at image function ≡ Some size → IsAt image (setting n function size) values m.pc node begun → Alike m values
+      → size_at image function ≡ Some size → IsAt image (setting n function size) values m.pc node begun
+      → IsInRunUps image function size m values → Alike m values
       → Began values back → AreWaiting image entry n home below back
       → Corresponds image entry n home m begun (Running (n.graph_number function) node values below)
   at_tail_landing : (graph node : ℕ) (values : Assignment) (below : List Waiting) → IsTailLanding image entry n graph node → Alike m values

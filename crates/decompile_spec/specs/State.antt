@@ -16,6 +16,10 @@ register r = record { family = Register; index = r; instance = 0; sort = sort.Wo
 abbrev pub entry_register : ℕ → Variable
 entry_register r = record { family = Entry; index = r; instance = 0; sort = sort.Word W32 }
 
+-- the index of a table by which a jump goes, from its bound to the jump: beside the machine's registers
+abbrev pub table_index : Variable
+table_index = register 32
+
 -- the memory of the binary
 abbrev pub memory : Variable
 memory = record { family = BinaryMemory; index = 0; instance = 0; sort = sort.Memory }

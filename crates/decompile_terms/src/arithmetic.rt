@@ -6,9 +6,10 @@ ghost use Rattle.term_core_spec.specs.Term as tree;
 ghost use Rattle.term_core_spec.specs.Shapes as shapes;
 ghost use Rattle.term_core_spec.specs.declared.Width.TheVariants.{W32};
 ghost use Rattle.decompile_spec.specs.InstructionTerms as forms;
+ghost use Rattle.decompile_spec.specs.State as state;
 ghost use Rattle.decompile_terms.specs.Built.{Builds};
 
-use crate::basic::{number, on_words, operand};
+use crate::basic::{number, on_words, open, operand, table_index};
 use crate::division::{signed_quotient, signed_remainder};
 use crate::products::{high_product, high_product_signed, high_product_signed_unsigned};
 use attempt::attempt;
@@ -118,6 +119,15 @@ fn equal(alloc: Global, x: Box<Term>, y: Box<Term>) -> Result<Box<Term>, AllocEr
     ensures { Builds result (tree.equal (term_of x.value) (term_of y.value)) }
 {
     Term::binary(alloc, BinaryOperator::Equal, x, y)
+}
+
+/// That the index of a table is this number.
+pub fn is_index(alloc: Global, n: u32) -> Result<Box<Term>, AllocError>
+    ensures { Builds result (tree.equal (tree.open_term state.table_index) (forms.number n)) }
+{
+    let index = attempt!(open(alloc, table_index()));
+    let n = attempt!(number(alloc, n));
+    equal(alloc, index, n)
 }
 
 fn opposite(alloc: Global, test: Box<Term>) -> Result<Box<Term>, AllocError>

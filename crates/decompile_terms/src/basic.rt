@@ -37,6 +37,18 @@ pub fn entry_register(r: Reg) -> Variable
     }
 }
 
+/// The index of a table by which a jump goes, as a variable beside the machine's registers.
+pub fn table_index() -> Variable
+    ensures { result ≡ state.table_index }
+{
+    Variable {
+        family: Family::Register,
+        index: 32,
+        instance: 0,
+        sort: Sort::Word(Width::W32),
+    }
+}
+
 /// The memory of the binary, as a variable.
 pub fn memory() -> Variable
     ensures { result ≡ state.memory }

@@ -12,5 +12,7 @@ mod division;
 mod products;
 
 pub use access::{avoids, is_multiple, last_written, loaded, stored};
-pub use arithmetic::{branch_test, computed, taken};
-pub use basic::{address, entry_register, memory, number, operand, register, returns_home};
+pub use arithmetic::{branch_test, computed, is_index, taken};
+pub use basic::{
+    address, entry_register, memory, number, operand, register, returns_home, table_index,
+};

@@ -7,11 +7,13 @@ use Rattle.memory_spec.proofs.Runs.{le_true}
 use Rattle.elf_read_spec.specs.Image.{Image, Symbol, fixed_byte, size_at}
 use Rattle.rv_instr.specs.Instr.{instr, instr_of, instr_of_immediate}
 use Rattle.code_reach_spec.specs.Code.{instr_at, Flow, Falls, Jumps, Calls, Returns, flow_at, nexts_of, InRange, HasCode, IsReachable, here, next, AreReachable, CallsOn, call, tail, IsStack, deep}
-use Rattle.example_laws.specs.CodeSamples.{image_with, pair, tail_call, circle, frame, frame_bytes, entered_pair, stray, pair_by_x1}
+use Rattle.code_reach_spec.specs.Code.{Branches, Switches, TableJump, straight, words_from, table_jump}
+use Rattle.code_reach_spec.specs.RunUp.{same, constant_of, parts_of, shift_of, sum, difference, shifted, masked, result_of, bound_of, follow}
+use Rattle.example_laws.specs.CodeSamples.{image_with, pair, tail_call, circle, frame, frame_bytes, entered_pair, stray, pair_by_x1, switch, switch_by_bgeu, switch_on_sum, switch_unbounded, switch_out, switch_entered}
 
 -- what computes a flow
 unfoldable pub code_computes : ⊤
-unfolding instr instr_of instr_of_immediate instr_at flow_at fixed_byte size_at pair tail_call circle frame entered_pair stray pair_by_x1
+unfolding instr instr_of instr_of_immediate instr_at flow_at fixed_byte size_at pair tail_call circle frame entered_pair stray pair_by_x1 switch switch_by_bgeu switch_on_sum switch_unbounded switch_out switch_entered straight words_from table_jump same constant_of parts_of shift_of sum difference shifted masked result_of bound_of follow
 code_computes = tt
 
 -- the bytes of the one segment are fixed
@@ -112,3 +114,19 @@ pub frame_stack : IsStack frame 0x10000 16
 unfolding code_computes
 frame_stack =
     deep 0x10000 8 0 places (λ t. 0) refl frame_reachable (λ t calls. absurd (calls_none t calls)) (record { above = λ t calls. omega arith; reached = inl refl })
+
+-- ---- jumps by a table
+
+module _ (image : Image) (entry size address : ℕ) where
+  -- by falling through
+  pub falls_to : IsReachable image entry size address → flow_at image entry address ≡ Some Falls → InRange entry size (address + 4)
+      → IsReachable image entry size (address + 4)
+  falls_to reached is inside = next address (address + 4) Falls reached is (0, omega arith, refl) inside
+
+  pub branch_falls_to : (target : ℕ) → IsReachable image entry size address → flow_at image entry address ≡ Some (Branches target)
+      → InRange entry size (address + 4) → IsReachable image entry size (address + 4)
+  branch_falls_to target reached is inside = next address (address + 4) (Branches target) reached is (0, omega arith, refl) inside
+
+-- a place of the range of 52 bytes
+pub within : (address : ℕ) → 0x10000 ≤ address → address < 0x10034 → InRange 0x10000 52 address
+within address low high = record { from = low; below = omega (arith, high) }

@@ -65,3 +65,65 @@ pair_by_x1_bytes = bytes_of (0x00000097 ∷ 0x00c08067 ∷ 0x00008067 ∷ 0x0000
 
 unfoldable pub pair_by_x1 : Image
 pair_by_x1 = image_with pair_by_x1_bytes (function (codes "f") 0x10000 12 ∷ function (codes "g") 0x1000c 4 ∷ [])
+
+-- f: li x15,1; bltu x15,x10,+40; lui x15,16; slli x10,x10,2; add x15,x15,x10; lw x15,52(x15); jr x15;
+-- li x10,7; ret; li x10,5; ret; li x10,9; ret. The words 0001001c and 00010024 follow
+abbrev pub switch_bytes : List ℕ
+switch_bytes = bytes_of (
+    0x00100793 ∷ 0x02a7e463 ∷ 0x000107b7 ∷ 0x00251513 ∷ 0x00a787b3 ∷ 0x0347a783 ∷ 0x00078067 ∷ 0x00700513
+    ∷ 0x00008067 ∷ 0x00500513 ∷ 0x00008067 ∷ 0x00900513 ∷ 0x00008067 ∷ 0x0001001c ∷ 0x00010024 ∷ []
+    )
+
+unfoldable pub switch : Image
+switch = image_with switch_bytes (function (codes "f") 0x10000 52 ∷ [])
+
+-- f: li x15,2; bgeu x10,x15,+40, and on as above
+abbrev pub switch_by_bgeu_bytes : List ℕ
+switch_by_bgeu_bytes = bytes_of (
+    0x00200793 ∷ 0x02f57463 ∷ 0x000107b7 ∷ 0x00251513 ∷ 0x00a787b3 ∷ 0x0347a783 ∷ 0x00078067 ∷ 0x00700513
+    ∷ 0x00008067 ∷ 0x00500513 ∷ 0x00008067 ∷ 0x00900513 ∷ 0x00008067 ∷ 0x0001001c ∷ 0x00010024 ∷ []
+    )
+
+unfoldable pub switch_by_bgeu : Image
+switch_by_bgeu = image_with switch_by_bgeu_bytes (function (codes "f") 0x10000 52 ∷ [])
+
+-- f: li x14,1; addi x15,x10,-97; bltu x14,x15,+40; slli x15,x15,2; lui x14,16; add x15,x15,x14; lw x15,56(x15); jr x15,
+-- and on as above. The words 00010020 and 00010028 follow
+abbrev pub switch_on_sum_bytes : List ℕ
+switch_on_sum_bytes = bytes_of (
+    0x00100713 ∷ 0xf9f50793 ∷ 0x02f76463 ∷ 0x00279793 ∷ 0x00010737 ∷ 0x00e787b3 ∷ 0x0387a783 ∷ 0x00078067
+    ∷ 0x00700513 ∷ 0x00008067 ∷ 0x00500513 ∷ 0x00008067 ∷ 0x00900513 ∷ 0x00008067 ∷ 0x00010020 ∷ 0x00010028 ∷ []
+    )
+
+unfoldable pub switch_on_sum : Image
+switch_on_sum = image_with switch_on_sum_bytes (function (codes "f") 0x10000 56 ∷ [])
+
+-- as `switch`, with a nop in place of the branch
+abbrev pub switch_unbounded_bytes : List ℕ
+switch_unbounded_bytes = bytes_of (
+    0x00100793 ∷ 0x00000013 ∷ 0x000107b7 ∷ 0x00251513 ∷ 0x00a787b3 ∷ 0x0347a783 ∷ 0x00078067 ∷ 0x00700513
+    ∷ 0x00008067 ∷ 0x00500513 ∷ 0x00008067 ∷ 0x00900513 ∷ 0x00008067 ∷ 0x0001001c ∷ 0x00010024 ∷ []
+    )
+
+unfoldable pub switch_unbounded : Image
+switch_unbounded = image_with switch_unbounded_bytes (function (codes "f") 0x10000 52 ∷ [])
+
+-- as `switch`, with 00010040 as the last word
+abbrev pub switch_out_bytes : List ℕ
+switch_out_bytes = bytes_of (
+    0x00100793 ∷ 0x02a7e463 ∷ 0x000107b7 ∷ 0x00251513 ∷ 0x00a787b3 ∷ 0x0347a783 ∷ 0x00078067 ∷ 0x00700513
+    ∷ 0x00008067 ∷ 0x00500513 ∷ 0x00008067 ∷ 0x00900513 ∷ 0x00008067 ∷ 0x0001001c ∷ 0x00010040 ∷ []
+    )
+
+unfoldable pub switch_out : Image
+switch_out = image_with switch_out_bytes (function (codes "f") 0x10000 52 ∷ [])
+
+-- as `switch`, with bltu x15,x10,+8: the branch goes to the slli
+abbrev pub switch_entered_bytes : List ℕ
+switch_entered_bytes = bytes_of (
+    0x00100793 ∷ 0x00a7e463 ∷ 0x000107b7 ∷ 0x00251513 ∷ 0x00a787b3 ∷ 0x0347a783 ∷ 0x00078067 ∷ 0x00700513
+    ∷ 0x00008067 ∷ 0x00500513 ∷ 0x00008067 ∷ 0x00900513 ∷ 0x00008067 ∷ 0x0001001c ∷ 0x00010024 ∷ []
+    )
+
+unfoldable pub switch_entered : Image
+switch_entered = image_with switch_entered_bytes (function (codes "f") 0x10000 52 ∷ [])

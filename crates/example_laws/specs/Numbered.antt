@@ -1,8 +1,9 @@
 -- A numbering under which the nodes of small functions are written out: the first node of the instruction at address
 -- 10000 hex and 4 k more is 10 k + 1, and its further nodes follow; the landing node after it is 10 k + 10.
-use Rattle.std.specs.Prelude.{ℕ, ◌+◌, ◌-◌, ◌*◌, ◌/◌, List, [], ◌∷◌, replicate, Option, None, option_map, option_and_then}
+use Rattle.std.specs.Prelude.{pos, true, false, ℕ, ◌+◌, ◌-◌, ◌*◌, ◌/◌, List, [], ◌∷◌, replicate, Option, None, option_map, option_and_then}
 use Rattle.rv_instr.specs.Instr.{instr}
-use Rattle.code_reach_spec.specs.Code.{flow_of}
+use Rattle.rv_instr.specs.declared.Instr.TheVariants.{Jalr}
+use Rattle.code_reach_spec.specs.Code.{Switches, TableJump, flow_of}
 use Rattle.term_core_spec.specs.Term.{Term, open_term, equal, add, less, or_term}
 use Rattle.graph_core_spec.specs.declared.Next.{Next}
 use Rattle.graph_core_spec.specs.declared.Next.TheVariants as next
@@ -28,11 +29,20 @@ function size = record {
 
 -- the nodes of a word at an address of that function, if the word has a form
 abbrev pub nodes_of : (size address word : ℕ) → Option (List Node)
-nodes_of size address word = option_map (λ i. nodes_at (function size) address i (flow_of None address i)) (instr word)
+nodes_of size address word = option_map (λ i. nodes_at (function size) address false i (flow_of None address i)) (instr word)
 
 -- the nodes of the second of two words
 abbrev pub nodes_after : (size address previous word : ℕ) → Option (List Node)
-nodes_after size address previous word = option_map (λ i. nodes_at (function size) address i (flow_of (instr previous) address i)) (instr word)
+nodes_after size address previous word = option_map (λ i. nodes_at (function size) address false i (flow_of (instr previous) address i)) (instr word)
+
+-- the nodes of a branch that bounds the index of a table
+abbrev pub bounding : (size address word : ℕ) → Option (List Node)
+bounding size address word = option_map (λ i. nodes_at (function size) address true i (flow_of None address i)) (instr word)
+
+-- the nodes of a jump by a table of these words
+abbrev pub jumping : (size address : ℕ) → List ℕ → List Node
+jumping size address targets =
+    nodes_at (function size) address false (Jalr 0 15 (pos 0)) (Switches (record { before = 6; branch = 0x10004; targets = targets }))
 
 -- where its landing node continues
 abbrev pub landing_after : (size address word : ℕ) → Option Next

@@ -1,4 +1,4 @@
-//! Worked facts of the definition of code graphs: the nodes of seven small functions, written out
+//! Worked facts of the definition of code graphs: the nodes of eight small functions, written out
 //! by hand.
 //!
 //! Each function's clauses are facts about the definitions of `decompile_spec`, and its body is
@@ -6,13 +6,14 @@
 //! unprivileged specification.
 
 ghost use Rattle.std.specs.Prelude.{◌≡◌, Some, None, [], ◌∷◌};
-ghost use Rattle.term_core_spec.specs.Term.{add, bit_and, equal, not_term, load};
+ghost use Rattle.term_core_spec.specs.Term.{add, bit_and, equal, less, not_term, load};
 ghost use Rattle.term_core_spec.specs.Term.{join_four, store, byte};
 ghost use Rattle.graph_core_spec.specs.declared.Next.TheVariants.{At, Ret, Err};
 ghost use Rattle.graph_core_spec.specs.Graph.{Basic, Cond, Call};
 ghost use Rattle.decompile_spec.specs.InstructionTerms.{number};
 ghost use Rattle.decompile_spec.specs.Blocks.{call_inputs, tail_inputs};
 ghost use Rattle.example_laws.specs.Numbered.{nodes_of, nodes_after, landing_after, x, e, m, sets};
+ghost use Rattle.example_laws.specs.Numbered.{bounding, jumping};
 ghost use Rattle.example_laws.specs.Numbered.{writes, asks};
 ghost use Rattle.example_laws.specs.Numbered.{avoiding, comes_home, x10_plus};
 
@@ -113,4 +114,15 @@ pub fn an_ecall_at_the_end()
     ensures misaligned_jump { nodes_of 8 0x10000 0x0020006f ≡ Some (Basic [] Err ∷ []) }
     ensures misaligned_call { nodes_of 8 0x10000 0x002000ef ≡ Some (Basic [] Err ∷ []) }
     ensures call_at_the_end { landing_after 8 0x10004 0x014000ef ≡ Some Err }
+{}
+
+/// A jump by a table: `bltu x15,x10,+40` keeps x10 in register 32 of the state where it falls
+/// through, and `jr x15`, whose table has the words 1001c and 10024, goes by it. After the last
+/// test is an error.
+pub fn a_table()
+    ensures bounds { bounding 52 0x10004 0x02a7e463 ≡ Some (
+        Cond (less (x 15) (x 10)) (At 111) (At 12) ∷ sets 32 (x 10) (At 21) ∷ []) }
+    ensures jumps { jumping 52 0x10018 (0x1001c ∷ 0x10024 ∷ []) ≡
+        Cond (equal (x 32) (number 0)) (At 71) (At 62)
+        ∷ Cond (equal (x 32) (number 1)) (At 91) Err ∷ [] }
 {}

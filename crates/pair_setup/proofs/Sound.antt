@@ -6,7 +6,7 @@ use Rattle.std.proofs.lemmas.List.Elements.{All-contains, Contains-get_or}
 use Rattle.std.proofs.lemmas.List.Sorted.{All-permutation, Contains-permutation}
 use Rattle.elf_read_spec.specs.Image.{Image, size_at}
 use Rattle.elf_read_spec.specs.declared.SymbolValues.TheVariants.{One}
-use Rattle.code_reach_spec.specs.Code.{CallsOn, Flow, Falls, Branches, Jumps, Calls, Links, Returns, Stops, InRange, IsReachable, call, tail, further, flow_at}
+use Rattle.code_reach_spec.specs.Code.{CallsOn, Flow, Falls, Branches, Jumps, Calls, Links, Returns, Switches, Stops, InRange, IsReachable, call, tail, further, flow_at}
 use Rattle.code_reach_spec.specs.Faults.{HasNoFault, ReachesNoFault}
 use Rattle.code_reach_spec.proofs.First.{each_without}
 use Rattle.decompile_spec.specs.Blocks.{callee_of, leaves_range}
@@ -62,6 +62,7 @@ module _ (image : Image) (entry size : ℕ) (sound : HasNoFault image entry size
   by_flow (Branches target) is c = absurd (cc)
   by_flow (Links target) is c = absurd (cc)
   by_flow Returns is c = absurd (cc)
+  by_flow (Switches jump) is c = absurd (cc)
   by_flow Stops is c = absurd (cc)
 
 called_on : (image : Image) (entry size : ℕ) → HasNoFault image entry size → (address callee : ℕ) → IsCall image entry size address callee

@@ -6,7 +6,7 @@ use Rattle.std.proofs.lemmas.List.Elements.{All-contains, Contains-get_or, Conta
 use Rattle.std.proofs.lemmas.List.Sums.{sum_by-cons, sum_by_push}
 use Rattle.rv_instr.specs.Instr.{instr}
 use Rattle.elf_read_spec.specs.Image.{Image, size_at}
-use Rattle.code_reach_spec.specs.Code.{InRange, Flow, Falls, Branches, Jumps, Calls, Links, Returns, Stops, flow_at, opening_of, instr_at, word_at, IsReachable, CallsOn, call, tail, IsGreatest, IsStack, deep}
+use Rattle.code_reach_spec.specs.Code.{InRange, Flow, Falls, Branches, Jumps, Calls, Links, Returns, Switches, Stops, flow_at, opening_of, instr_at, word_at, IsReachable, CallsOn, call, tail, IsGreatest, IsStack, deep}
 use Rattle.code_reach_spec.specs.FaultAt.{in_range}
 use Rattle.code_reach.specs.Flows.{called_by, callee_at}
 use Rattle.code_reach.specs.Found.{IsCode}
@@ -150,6 +150,7 @@ module _ (image : Image) (entry : ℕ) (words : List (ℕ × ℕ)) (is : IsCode 
       let same : t ≡ target = cc in subst (λ z. IsSome (size_at image z)) same (calls_function image entry is.size address is.sound reached t is_flow)
   sized-by address target reached (Links t) is_flow e = absurd (cc)
   sized-by address target reached Returns is_flow e = absurd (cc)
+  sized-by address target reached (Switches jump) is_flow e = absurd (cc)
   sized-by address target reached Stops is_flow e = absurd (cc)
 
   sized-at : (address target : ℕ) → IsReachable image entry is.size address → callee_at image entry is.size address ≡ Some target → IsSome (size_at image target)

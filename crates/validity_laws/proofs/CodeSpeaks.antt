@@ -1,7 +1,7 @@
 -- Graphs of code speak of registers, their values at entry, and the binary's memory; and what their calls bind.
 use Rattle.std.proofs.Common.{◌≡◌, ◌⊎◌, ◌∙◌, ℕ, zero, suc, ◌+◌, ◌-◌, ◌%◌, ◌==◌, Bool, true, false, cond, if◌then◌else◌, refl, sym, ap, subst, inl, inr, List, [], ◌∷◌, length, map, All, Some}
 use Rattle.std.specs.Prelude.{slice_get, ⊤}
-use Rattle.std.proofs.lemmas.Option.{get_or_from_slice_get}
+use Rattle.std.proofs.lemmas.Option.{get_or_from_slice_get, slice_get_within}
 use Rattle.std.proofs.lemmas.List.Elements.{All-nil, All-cons, All-append, All-head, All-tail}
 use Rattle.memory_spec.specs.Runs.{Run}
 use Rattle.rv_instr.specs.declared.BranchTest.{BranchTest}
@@ -17,15 +17,15 @@ use Rattle.rv_instr.specs.declared.Instr.TheVariants as instr
 use Rattle.rv_machine_spec.specs.Arithmetic.{word}
 use Rattle.rv_machine_spec.specs.Machine.{past}
 use Rattle.elf_read_spec.specs.Image.{Image}
-use Rattle.code_reach_spec.specs.Code.{Flow, Falls, Branches, Jumps, Calls, Links, Returns, Stops}
+use Rattle.code_reach_spec.specs.Code.{Flow, Falls, Branches, Jumps, Calls, Links, Returns, Switches, Stops}
 use Rattle.term_core_spec.specs.declared.Width.TheVariants.{W32}
 use Rattle.term_core_spec.specs.Term.{Term, equal, less, bit_and, open_term, load}
 use Rattle.term_core_spec.specs.Shapes as shapes
 use Rattle.graph_core_spec.specs.declared.Next.TheVariants as to
 use Rattle.graph_core_spec.specs.Graph.{Node, Basic, Cond, Call, Graph}
-use Rattle.decompile_spec.specs.State.{register, entry_register, memory}
+use Rattle.decompile_spec.specs.State.{register, entry_register, table_index, memory}
 use Rattle.decompile_spec.specs.InstructionTerms.{number, operand, address, places, set_if, computed, taken, loaded, stored, is_multiple, load_tests, avoids, last_written, aligned_for, access_tests, returns_home, put, effects, branch_test}
-use Rattle.decompile_spec.specs.Blocks.{NodeName, Following, Setting, Ending, Does, Goes, toward, onward, chain, tests_of, ending_of, nodes_at, leaves, entry_binding, other_registers, call_inputs, tail_inputs, call_nodes, tail_call_nodes}
+use Rattle.decompile_spec.specs.Blocks.{NodeName, Of, Following, Setting, Ending, Does, Goes, toward, onward, chain, tests_of, bounded_by, branching, next_test, table_tests, does_all, ending_of, nodes_at, leaves, entry_binding, other_registers, call_inputs, tail_inputs, call_nodes, tail_call_nodes}
 use Rattle.decompile_spec.specs.CodeGraph.{IsNodeAt, entrance, of_instruction, landing, IsCodeGraph}
 use Rattle.term_core_spec.specs.declared.Variable.{Variable}
 use Rattle.sim_rules_spec.specs.Points.{is_binary}
@@ -203,6 +203,29 @@ branch_own (instr.Fence rd source bits) = truth_own of_binary false
 branch_own instr.Ecall = truth_own of_binary false
 branch_own instr.Ebreak = truth_own of_binary false
 
+bounded_own : (i : Instr) → Own (bounded_by i)
+bounded_own (instr.Branch branch.Equal left right offset) = number_own 0
+bounded_own (instr.Branch branch.NotEqual left right offset) = number_own 0
+bounded_own (instr.Branch branch.Less left right offset) = number_own 0
+bounded_own (instr.Branch branch.GreaterOrEqual left right offset) = number_own 0
+bounded_own (instr.Branch branch.LessUnsigned left right offset) = operand_own right
+bounded_own (instr.Branch branch.GreaterOrEqualUnsigned left right offset) = operand_own left
+bounded_own (instr.Lui rd imm) = number_own 0
+bounded_own (instr.Auipc rd imm) = number_own 0
+bounded_own (instr.Jal rd offset) = number_own 0
+bounded_own (instr.Jalr rd base offset) = number_own 0
+bounded_own (instr.Load kind rd base offset) = number_own 0
+bounded_own (instr.Store kind base source offset) = number_own 0
+bounded_own (instr.Immediate operation rd source imm) = number_own 0
+bounded_own (instr.Shift operation rd source amount) = number_own 0
+bounded_own (instr.Arithmetic operation rd left right) = number_own 0
+bounded_own (instr.Fence rd source bits) = number_own 0
+bounded_own instr.Ecall = number_own 0
+bounded_own instr.Ebreak = number_own 0
+
+keeping_own : (i : Instr) → AreOwnBindings is_binary (record { variable = table_index; term = bounded_by i } ∷ [])
+keeping_own i = All-cons (IsOwnBinding is_binary) (record { variable = table_index; term = bounded_by i }) [] (refl, bounded_own i) none
+
 entries_own : (rs : List ℕ) → AreOwnBindings is_binary (map entry_binding rs)
 entries_own [] = none
 entries_own (r ∷ rs) = All-cons (IsOwnBinding is_binary) (entry_binding r) (map entry_binding rs) (refl, register_own r) (entries_own rs)
@@ -230,8 +253,11 @@ abbrev IsGood : Node → Type 0
 IsGood node = IsOwnNode is_binary node × HasCallShape node
 
 EndsGood : Ending → Type 0
-EndsGood (Does node) = IsGood node
+EndsGood (Does node further) = All IsGood (node ∷ further)
 EndsGood (Goes on) = ⊤
+
+one_good : (node : Node) → IsGood node → All IsGood (node ∷ [])
+one_good node good = All-cons IsGood node [] good (All-nil IsGood)
 
 tests_own : (f : Setting) (i : Instr) (flow : Flow) → All Own (tests_of f i flow)
 unfolding tests_of
@@ -245,30 +271,51 @@ tests_own f i (Jumps target) = at (leaves f target)
 tests_own f i (Calls target) = All-nil Own
 tests_own f i (Links target) = All-nil Own
 tests_own f i Returns = one_test of_binary returns_home home_own
+tests_own f i (Switches jump) = All-nil Own
 tests_own f i Stops = All-nil Own
 
-ending_good : (f : Setting) (a : ℕ) (i : Instr) (flow : Flow) → EndsGood (ending_of f a i flow)
+branching_good : (f : Setting) (a : ℕ) (keeps : Bool) (i : Instr) (target : ℕ) → EndsGood (branching f a keeps i target)
+unfolding EndsGood
+branching_good f a false i target = one_good (Cond (branch_test i) (toward f target) (toward f (a + 4))) (branch_own i, tt)
+branching_good f a true i target =
+    let keeping : Node = Basic (record { variable = table_index; term = bounded_by i } ∷ []) (toward f (a + 4)) in
+    All-cons IsGood (Cond (branch_test i) (toward f target) (to.At (f.at (Of a 1)))) (keeping ∷ []) (branch_own i, tt) (one_good keeping (keeping_own i, tt))
+
+table_good : (f : Setting) (a n : ℕ) (targets : List ℕ) → All IsGood (table_tests f a n targets)
+unfolding table_tests
+table_good f a n [] = All-nil IsGood
+table_good f a n (target ∷ rest) =
+    All-cons IsGood (Cond (equal (open_term table_index) (number n)) (toward f target) (next_test f a (n + 1) rest)) (table_tests f a (n + 1) rest)
+    (two_own of_binary _ (open_term table_index) (number n) (register_own 32) (number_own n), tt) (table_good f a (n + 1) rest)
+
+switching_good : (f : Setting) (a : ℕ) (targets : List ℕ) → EndsGood (does_all (table_tests f a 0 targets))
+unfolding EndsGood table_tests
+switching_good f a [] = one_good (Basic [] to.Err) (none, tt)
+switching_good f a (target ∷ rest) = table_good f a 0 (target ∷ rest)
+
+ending_good : (f : Setting) (a : ℕ) (keeps : Bool) (i : Instr) (flow : Flow) → EndsGood (ending_of f a keeps i flow)
 unfolding EndsGood ending_of
-ending_good f a i Falls = (effects_own a i, tt)
-ending_good f a i (Branches target) = (branch_own i, tt)
-ending_good f a i (Jumps target) = at (leaves f target)
+ending_good f a keeps i Falls = one_good (Basic (effects a i) (toward f (a + 4))) (effects_own a i, tt)
+ending_good f a keeps i (Branches target) = branching_good f a keeps i target
+ending_good f a keeps i (Jumps target) = at (leaves f target)
   where
-    at : (b : Bool) → IsGood (cond b (Call (f.graph_number target) tail_inputs [] (f.at (Following a tail_call_nodes))) (Basic [] (toward f target)))
-    at true = ((tail_own, none), (inr refl, refl))
-    at false = (none, tt)
-ending_good f a i (Calls target) = at (target % 4 == 0)
+    at : (b : Bool) → All IsGood (cond b (Call (f.graph_number target) tail_inputs [] (f.at (Following a tail_call_nodes))) (Basic [] (toward f target)) ∷ [])
+    at true = one_good (Call (f.graph_number target) tail_inputs [] (f.at (Following a tail_call_nodes))) ((tail_own, none), (inr refl, refl))
+    at false = one_good (Basic [] (toward f target)) (none, tt)
+ending_good f a keeps i (Calls target) = at (target % 4 == 0)
   where
-    at : (b : Bool) → IsGood (cond b (Call (f.graph_number target) (call_inputs (past a 4)) [] (f.at (Following a call_nodes))) (Basic [] to.Err))
-    at true = ((call_own (past a 4), none), (inl (past a 4, refl), refl))
-    at false = (none, tt)
-ending_good f a i (Links target) = (none, tt)
-ending_good f a i Returns = tt
-ending_good f a i Stops = (none, tt)
+    at : (b : Bool) → All IsGood (cond b (Call (f.graph_number target) (call_inputs (past a 4)) [] (f.at (Following a call_nodes))) (Basic [] to.Err) ∷ [])
+    at true = one_good (Call (f.graph_number target) (call_inputs (past a 4)) [] (f.at (Following a call_nodes))) ((call_own (past a 4), none), (inl (past a 4, refl), refl))
+    at false = one_good (Basic [] to.Err) (none, tt)
+ending_good f a keeps i (Links target) = one_good (Basic [] to.Err) (none, tt)
+ending_good f a keeps i Returns = tt
+ending_good f a keeps i (Switches jump) = switching_good f a jump.targets
+ending_good f a keeps i Stops = one_good (Basic [] to.Err) (none, tt)
 
 chain_good : (f : Setting) (a j : ℕ) (tests : List Term) (ending : Ending) (k : ℕ) (node : Node) → All Own tests → EndsGood ending → slice_get (chain f a j tests ending) k ≡ Some node → IsGood node
 unfolding EndsGood chain
-chain_good f a j [] (Does last) zero node all good is = let same : last ≡ node = cc in subst IsGood same good
-chain_good f a j [] (Does last) (suc k) node all good is = absurd (cc)
+chain_good f a j [] (Does last further) k node all good is =
+    subst IsGood (get_or_from_slice_get (last ∷ further) k node node is) (good k node (slice_get_within (last ∷ further) k node is))
 chain_good f a j [] (Goes on) k node all good is = absurd (cc)
 chain_good f a j (test ∷ tests) ending zero node all good is =
     let same : Cond test (onward f a (j + 1) tests ending) to.Err ≡ node = cc in
@@ -279,9 +326,9 @@ chain_good f a j (test ∷ tests) ending (suc k) node all good is = chain_good f
 node_good : (image : Image) (f : Setting) (name : NodeName) (node : Node) → IsNodeAt image f name node → IsGood node
 unfolding nodes_at
 node_good image f _ _ entrance = (none, tt)
-node_good image f _ node (of_instruction a index i flow _ reach there flow_is get) =
-    chain_good f a 0 (tests_of f i flow) (ending_of f a i flow) index node (tests_own f i flow) (ending_good f a i flow) get
-node_good image f _ _ (landing a own i flow on reach there flow_is long lands) = (none, tt)
+node_good image f _ node (of_instruction a index keeps i flow _ reach there flow_is kept get) =
+    chain_good f a 0 (tests_of f i flow) (ending_of f a keeps i flow) index node (tests_own f i flow) (ending_good f a keeps i flow) get
+node_good image f _ _ (landing a own keeps i flow on reach there flow_is kept long lands) = (none, tt)
 
 all_good : (image : Image) (f : Setting) (graph : Graph) → IsCodeGraph image f graph → All IsGood graph.nodes
 all_good image f graph is k d below =

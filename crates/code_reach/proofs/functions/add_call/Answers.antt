@@ -1,4 +1,4 @@
-use Rattle.std.proofs.Common.{◌≡◌, Some, None, sym, rules}
+use Rattle.std.proofs.Common.{◌≡◌, Some, sym, rules}
 use Rattle.std.specs.Prelude.{IsSome}
 use Rattle.elf_read_spec.specs.Image.{size_at}
 use Rattle.code_reach.specs.Flows.{callee_at}

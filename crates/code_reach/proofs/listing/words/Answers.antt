@@ -11,7 +11,7 @@ pub loop-address-preserved : goal.loop-address-preserved
 loop-address-preserved c =
     subst (IsListed c.args.image.now c.args.entry c.args.size c.args.targets.now.keys c.args.addresses.now (c.loop-address.address-index + 1)) (sym c.in_ok-push.ensures.items)
     (listed-more c.args.image.now c.args.entry c.args.size c.args.targets.now.keys c.args.addresses.now c.loop-address.address-index (get_or c.args.addresses.now c.loop-address.address-index 0)
-    c.in_ok-found.found c.loop-address.words.items c.loop-address.invariant (omega arith) refl c.in_ok-found.ensures.word c.in_ok-found.ensures.sound)
+    c.in-Ok-attempt.field-0 c.loop-address.words.items c.loop-address.invariant (omega arith) refl c.in-Ok-attempt.ensures.word c.in-Ok-attempt.ensures.sound)
 
 pub returns-clause-listed : goal.returns-clause-listed
 returns-clause-listed c =

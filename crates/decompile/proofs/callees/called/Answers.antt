@@ -7,7 +7,7 @@ use Rattle.decompile.proofs.callees.called.Goals as goal
 
 pub returns-in-Some : goal.returns-in-Some
 returns-in-Some c =
-    c.aligned.ensures ∙ ap (option_and_then aligned_of) c.in-Some.ensures ∙ callee_aligned c.args.entry c.args.size (flow_seen c.args.item.now.flow)
+    λ image. c.aligned.ensures ∙ ap (option_and_then aligned_of) (c.in-Some.ensures image) ∙ callee_aligned c.args.entry c.args.size (flow_seen image c.args.item.now.flow)
 
 pub returns-in-None : goal.returns-in-None
-returns-in-None c = ap (option_and_then aligned_of) c.in-None.ensures ∙ callee_aligned c.args.entry c.args.size (flow_seen c.args.item.now.flow)
+returns-in-None c = λ image. ap (option_and_then aligned_of) (c.in-None.ensures image) ∙ callee_aligned c.args.entry c.args.size (flow_seen image c.args.item.now.flow)

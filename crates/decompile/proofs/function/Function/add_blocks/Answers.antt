@@ -14,6 +14,6 @@ loop-item-preserved c =
     let rest : drop c.loop-item.item-index c.args.items.now ≡ c.item-item.result ∷ drop (c.loop-item.item-index + 1) c.args.items.now =
     drop_more c.args.items.now c.loop-item.item-index c.item-item.result c.loop-item-test.true
     ∙ ap (λ (x : Item). x ∷ drop (c.loop-item.item-index + 1) c.args.items.now) (sym c.item-item.is) in
-    block_added (setting_of c.args.self.now) (graph_of c.add_block.new.graph) (graph_of c.loop-item.graph) (laid (setting_of c.args.self.now) (map item_of c.args.items.now))
-    (item_of c.item-item.result) (map item_of (drop (c.loop-item.item-index + 1) c.args.items.now)) c.in_ok-add_block.ensures
-    (ap (λ (is : List Item). with_nodes (graph_of c.loop-item.graph) (blocks (setting_of c.args.self.now) (map item_of is))) (sym rest) ∙ c.loop-item.invariant)
+    block_added (setting_of c.args.self.now) (graph_of c.add_block.new.graph) (graph_of c.loop-item.graph) (laid (setting_of c.args.self.now) (map (item_of c.args.image.now) c.args.items.now))
+    (item_of c.args.image.now c.item-item.result) (map (item_of c.args.image.now) (drop (c.loop-item.item-index + 1) c.args.items.now)) c.in_ok-add_block.ensures
+    (ap (λ (is : List Item). with_nodes (graph_of c.loop-item.graph) (blocks (setting_of c.args.self.now) (map (item_of c.args.image.now) is))) (sym rest) ∙ c.loop-item.invariant)

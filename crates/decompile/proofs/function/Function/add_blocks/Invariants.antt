@@ -8,4 +8,4 @@ use Rattle.decompile.proofs.function.Function.add_blocks.Given as goal
 
 abbrev pub invariant-loop-item : goal.invariant-loop-item
 invariant-loop-item l =
-    with_nodes (graph_of l.graph) (blocks (setting_of l.self) (map item_of (drop l.item-index l.items))) ≡ laid (setting_of l.self) (map item_of l.items)
+    with_nodes (graph_of l.graph) (blocks (setting_of l.self) (map (item_of l.image) (drop l.item-index l.items))) ≡ laid (setting_of l.self) (map (item_of l.image) l.items)

@@ -6,5 +6,5 @@ use Rattle.decompile.proofs.function.Function.add_jump.Goals as goal
 
 pub returns : goal.returns
 returns c =
-    jump_added (setting_of c.args.self.now) c.args.item.now.address c.args.item.now.instruction (graph_of c.add_plain.new.graph) (graph_of c.args.graph.now)
+    jump_added (setting_of c.args.self.now) c.args.item.now.address c.args.item.now.keeps c.args.item.now.instruction (graph_of c.add_plain.new.graph) (graph_of c.args.graph.now)
     c.args.target c.toward.result (sym c.leaves.ensures ∙ c.if-leaves.false) c.toward.ensures c.in_ok-add_plain.ensures
