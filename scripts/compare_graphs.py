@@ -262,6 +262,8 @@ void _start(void) { for (;;); }
 
 FLAGS = "-march=rv32im -mabi=ilp32 -ffreestanding -nostdlib -static -msmall-data-limit=0".split()
 LEVELS = ("-O0", "-O1", "-O2", "-Os")
+# How many executables a run of the program is asked.
+BATCH = 8
 # whether calls are by one JAL each or by pairs of instructions, whether last calls become jumps, and switches tables
 KINDS = {
     "jumps": ["-fno-optimize-sibling-calls", "-fno-jump-tables"],
@@ -319,10 +321,15 @@ class Reader:
     def node(self):
         kind = self.next()
         if kind == "basic":
-            return kind, self.bindings(), self.next()
+            return kind, self.bindings(), self.after()
         if kind == "cond":
-            return kind, self.term(), self.next(), self.next()
-        return kind, int(self.next()), self.bindings(), self.bindings(), self.next()
+            return kind, self.term(), self.after(), self.after()
+        return kind, int(self.next()), self.bindings(), self.bindings(), self.after()
+
+    def after(self):
+        """Where a node goes: the number of a node, Ret or Err."""
+        word = self.next()
+        return int(word) if word.isdigit() else word
 
 
 def graphs_of(lines):
@@ -494,15 +501,18 @@ class Rows:
 
 
 def by_crates(rows):
-    """The graphs and the runs of the crates' machine, a list for each file."""
-    answers = ask(PROBE, CRATES, "\n".join(line for row in rows for line in row.lines()) + "\n", [row.file for row in rows])
-    graphs = graphs_of(line for line in answers if line.split(" ")[0] in ("refused", "function", "first", "node"))
-    machines = [(line.split()[1], line.split()[2:]) for line in answers if line.startswith("run ")]
-    if len(graphs) != sum(len(row.names) for row in rows) or len(machines) != sum(len(row.runs) for row in rows):
-        sys.exit(f"the probe answered {len(graphs)} functions and {len(machines)} runs")
-    for row in rows:
-        yield graphs[: len(row.names)], machines[: len(row.runs)]
-        graphs, machines = graphs[len(row.names) :], machines[len(row.runs) :]
+    """The graphs and the runs of the crates' machine, a list for each file; a run of the program prints at most 1 MiB."""
+    files = [row.file for row in rows]
+    for start in range(0, len(rows), BATCH):
+        part = rows[start : start + BATCH]
+        answers = ask(PROBE, CRATES, "\n".join(line for row in part for line in row.lines()) + "\n", files)
+        graphs = graphs_of(line for line in answers if line.split(" ")[0] in ("refused", "function", "first", "node"))
+        machines = [(line.split()[1], line.split()[2:]) for line in answers if line.startswith("run ")]
+        if len(graphs) != sum(len(row.names) for row in part) or len(machines) != sum(len(row.runs) for row in part):
+            sys.exit(f"the probe answered {len(graphs)} functions and {len(machines)} runs")
+        for row in part:
+            yield graphs[: len(row.names)], machines[: len(row.runs)]
+            graphs, machines = graphs[len(row.names) :], machines[len(row.runs) :]
 
 
 def main(seed=5, count=3):
