@@ -9,11 +9,19 @@ use Rattle.cert_text_parse.specs.declared.lines.Line.{Line as CodeLine}
 use Rattle.cert_text_parse.specs.declared.lines.Line.TheVariants as code
 use Rattle.cert_text_parse.specs.Views.{line_of}
 use Rattle.cert_text_spec.specs.declared.Symbol.{Symbol}
-use Rattle.cert_text_spec.specs.Lines.{Line, Header, Function, Relation, End}
+use Rattle.cert_text_spec.specs.Lines.{Line, Header, Function, Relation, End, line_text}
 use Rattle.cert_text_spec.specs.Certificates.{Expected, AHeader, TheParts, BinaryInlines, SourceInlines, AProof, ARelation, ALog, AStep, after, can_stand, is_header, is_part}
 use Rattle.proof_tree_spec.specs.Frames.{Frame}
-use Rattle.cert_check_spec.specs.Verdict as spec
-use Rattle.cert_check_spec.specs.Verdict.{State, Between, Inside, NotProof, Limit, Passes, Fails, begun}
+use Rattle.cert_check_lines_spec.specs.Sites.{Part}
+use Rattle.cert_check_lines_spec.specs.Jobs as spec
+use Rattle.cert_check_lines_spec.specs.Jobs.{AtEntry}
+use Rattle.cert_check_lines_spec.specs.LineRules as lines
+use Rattle.cert_check_lines_spec.specs.Parts as parts_of
+use Rattle.cert_check_lines_spec.specs.Parts.{Functions, Member, State, Between, Unfolding, Inside, HasParts, at_start, at_close, IsFree, unfolded, part_of}
+use Rattle.cert_check_lines_spec.specs.Walk.{Going, Stopped, Takes}
+use Rattle.cert_check_lines_spec.specs.Walk as walks
+use Rattle.cert_check_lines_spec.specs.Known.{is_known}
+use Rattle.cert_check_spec.specs.declared.RuleWord.{RuleWord}
 use Rattle.cert_check_spec.specs.declared.RuleWord.TheVariants as fault
 use Rattle.cert_check.specs.declared.fault.Named.TheVariants as named
 use Rattle.attempt.specs.declared.refusal.Refusal.{Refusal}
@@ -25,15 +33,16 @@ use Rattle.cert_check.specs.declared.fault.PartFault.TheVariants as inner
 use Rattle.cert_check_frames.specs.declared.jobs.Job.{Job}
 use Rattle.cert_check_frames.specs.declared.listed.Listed.{Listed}
 use Rattle.cert_check.specs.declared.walk.Walk.{Walk}
-use Rattle.cert_check_frames.specs.Listed.{IsListed, AreListed, frame_at}
+use Rattle.cert_check_frames.specs.Listed.{IsListed, frame_at}
 use Rattle.cert_check.specs.Jobs.{jobs_of}
-use Rattle.cert_check.specs.Expectations.{IsOfProof, of_binary, of_source, of_proof, AreOf, no_job, a_proof, a_log, IsNext, AreAfter, is_unchecked}
+use Rattle.cert_check.specs.Expectations.{IsOfProof, of_binary, of_source, of_proof, AreOf, no_job, a_proof, a_log, IsNext, AreAfter}
 use Rattle.cert_check.specs.Steps.{Comes, IsStep}
 use Rattle.cert_check_frames.specs.Parts.{AreIndices, IsNamed, HasPart, IsFreeAt, IsMissingAt}
-use Rattle.cert_check.specs.Walks.{ArePicked, IsState, between, inside, Expecting, at_header, at_first, in_part, at_end, Keeps, IsSound, IsWalk, StepsTo, ExpectsAfter, Goes, IsInside, IsPlain, ComesAt, IsInPart, GoesInside, BeginsAt, Begins, Ends, named_fault}
+use Rattle.cert_check.specs.Walks.{ArePicked, no_pick, AreMembers, IsPart, walk_jobs, IsState, between, unfolding_part, inside, Expecting, at_header, at_first, in_part, Keeps, IsSound, IsWalk, StepsTo, ExpectsAfter, Goes, IsInside, IsPlain, Breaks, ComesAt, IsInPart, GoesInside, BeginsAt, Begins, Ends, named_fault}
 use Rattle.cert_check_frames.proofs.Indexed.{one_item}
-use Rattle.cert_check.proofs.Picked.{listed_there, state_picked, is_free, never_free, is_missing, none_missing}
-use Rattle.cert_check.proofs.Walked.{ends}
+use Rattle.cert_check.proofs.Pushed.{no_jobs}
+use Rattle.cert_check.proofs.Picked.{member_there, picked_more, is_free, never_free, is_missing, none_missing}
+use Rattle.cert_check.proofs.States.{no_item, some_item, accepts_there, rejects_there, begun_there, IsLast, last_of}
 
 -- ---- what is expected
 
@@ -88,12 +97,6 @@ at_version walk _ _ (at_header empty) is = (empty, refl)
 at_version walk _ _ (at_first empty) is = absurd (cc)
 at_version walk e others (in_part _ some are) is = absurd (header_of e others walk.jobs.items are is)
 
-pub no_item : {X : Type 0} (xs before : List X) (x : X) → xs ≡ [] → xs ≡ before ++ x ∷ [] → ⊥
-no_item xs before x empty is = absurd (omega (arith, ap length empty, ap length is, length-append before (x ∷ [])))
-
-pub some_item : {X : Type 0} (xs before : List X) (x : X) → xs ≡ before ++ x ∷ [] → 0 < length xs
-some_item xs before x is = omega (arith, ap length is, length-append before (x ∷ []))
-
 -- ---- the version
 
 pub header_goes : (codes : List Listed) (walk : Walk) (index : ℕ) → IsWalk codes walk Header → Goes codes walk walk Header index (Ok (tt {0}))
@@ -104,13 +107,61 @@ header_goes codes walk index at =
       follows = λ e others expecting allowed.
           let is = only_header e allowed in
           let here = at_version walk e others expecting is in
-          subst (Expecting walk) (sym (ap (λ (x : Expected). after x Header ++ others) is ∙ ap (λ (l : List Expected). TheParts ∷ l) here.1)) (at_first here.0);
-      step = λ listed ahead are s state. by listed ahead s state version.0;
+          inr (subst (Expecting walk) (sym (ap (λ (x : Expected). after x Header ++ others) is ∙ ap (λ (l : List Expected). TheParts ∷ l) here.1)) (at_first here.0));
+      step = λ fs members offset are s state. by fs members offset s state version.0;
     }
   where
-    by : (listed : List spec.Listed) (ahead : List Line) (s : State) → IsState codes listed walk s → walk.parts.items ≡ [] → StepsTo codes listed ahead walk s Header index (Ok (tt {0}))
-    by listed ahead _ (between empty) none = (Between [], spec.header, inr (between empty))
-    by listed ahead _ (inside before k function f parts is there at picked) none = absurd (no_item walk.parts.items before k none is)
+    by : (fs : Functions) (members : List Member) (offset : ℕ) (s : State) → IsState codes members walk s → walk.parts.items ≡ []
+        → StepsTo codes fs members offset walk s Header index (Ok (tt {0}))
+    by fs members offset _ (between empty) none =
+        (Between [], walks.goes_on offset (Between []) (Between []) Header refl parts_of.header, inr (between empty))
+    by fs members offset _ (unfolding_part function f parts part jobs) none = absurd (no_item walk.parts.items part.before part.index none part.split)
+    by fs members offset _ (inside function f parts part) none = absurd (no_item walk.parts.items part.before part.index none part.split)
+
+-- ---- where nothing is open
+
+jobs_none : (e : Expected) (others : List Expected) (jobs : List Job) → AreOf (e ∷ others) jobs → e ≡ TheParts → jobs ≡ []
+jobs_none _ _ _ no_job is = refl
+jobs_none e others jobs (a_proof _ _ below _ premises of are same) is = absurd (never_part e of is)
+jobs_none _ others jobs (a_log _ below _ goal are same) is = absurd (cc)
+
+no_spec_jobs : (walk : Walk) (function : Listed) → walk.jobs.items ≡ [] → walk_jobs walk function ≡ []
+no_spec_jobs walk function none = ap (jobs_of walk.bank (frame_at function)) none ∙ no_jobs walk.bank (frame_at function)
+
+cons_nothing : {X : Type 0} (x : X) (xs : List X) → x ∷ xs ≡ [] → ⊥
+cons_nothing x xs e = absurd (cc)
+
+-- the functions that have a part, by the walk's indices
+record IsShut (members : List Member) (walk : Walk) (s : State) : Type 0 where
+  parts : List Member
+  has : HasParts s parts
+  picked : ArePicked members walk.parts.items parts
+
+module _ (codes : List Listed) (members : List Member) (walk : Walk) where
+  part_picked : (function : Listed) (f : Member) (parts : List Member) → IsPart codes members walk function f parts → ArePicked members walk.parts.items (parts ++ f ∷ [])
+  part_picked function f parts part =
+      subst (λ (list : List ℕ). ArePicked members list (parts ++ f ∷ [])) (sym part.split) (picked_more members part.before parts part.index f part.picked part.member)
+
+  shut_first : walk.parts.items ≡ [] → (s : State) → IsState codes members walk s → IsShut members walk s
+  shut_first empty _ (between none) =
+      record { parts = []; has = at_start []; picked = subst (λ (list : List ℕ). ArePicked members list []) (sym empty) no_pick }
+  shut_first empty _ (unfolding_part function f parts part jobs) = absurd (no_item walk.parts.items part.before part.index empty part.split)
+  shut_first empty _ (inside function f parts part) = absurd (no_item walk.parts.items part.before part.index empty part.split)
+
+  shut_part : 0 < length walk.parts.items → walk.jobs.items ≡ [] → (s : State) → IsState codes members walk s → IsShut members walk s
+  shut_part some none _ (between empty) = absurd (omega (arith, some, ap length empty))
+  shut_part some none _ (unfolding_part function f parts part jobs) =
+      absurd (cons_nothing (spec.Prove AtEntry f.listed.frame) [] (sym jobs ∙ no_spec_jobs walk function none))
+  shut_part some none _ (inside function f parts part) = record {
+    parts = parts ++ f ∷ [];
+    has = subst (λ (jobs : List spec.Job). HasParts (Inside parts f (unfolded f) jobs) (parts ++ f ∷ [])) (sym (no_spec_jobs walk function none)) (at_close parts f (unfolded f));
+    picked = part_picked function f parts part;
+  }
+
+  shut : (e : Expected) (others : List Expected) → Expecting walk (e ∷ others) → e ≡ TheParts → (s : State) → IsState codes members walk s → IsShut members walk s
+  shut _ _ (at_header empty) is s state = absurd (cc)
+  shut _ _ (at_first empty) is s state = shut_first empty s state
+  shut e others (in_part _ some are) is s state = shut_part some (jobs_none e others walk.jobs.items are is) s state
 
 -- ---- a part begins
 
@@ -119,17 +170,21 @@ function_follows : (old now : Walk) (name : List ℕ) (stack : ℕ) → 0 < leng
 function_follows old now name stack some are = λ e others expecting allowed.
     let is = only_parts e name stack allowed in
     let empty = alone old e others expecting is in
-    subst (Expecting now)
+    inr
+    (subst (Expecting now)
     (sym (ap (λ (x : Expected). after x (Function name stack) ++ others) is ∙ ap (λ (l : List Expected). BinaryInlines ∷ TheParts ∷ l) empty))
-    (in_part (BinaryInlines ∷ TheParts ∷ []) some are)
+    (in_part (BinaryInlines ∷ TheParts ∷ []) some are))
 
-module _ (codes : List Listed) (old now : Walk) (name : List ℕ) (stack line index : ℕ) (sound : IsSound codes old) (is_named : IsNamed codes index name)
+module _ (codes : List Listed) (old now : Walk) (name : List ℕ) (stack line index : ℕ) (at : IsWalk codes old (Function name stack)) (is_named : IsNamed codes index name)
     (free : HasPart codes old.parts.items name → ⊥) where
-  -- the definition's function, at its index
-  free_at : (listed : List spec.Listed) → (are : AreListed codes listed) → (s : State) → IsState codes listed old s → (f : spec.Listed) → slice_get listed index ≡ Some f → IsListed is_named.function f
-      → spec.IsFree listed (begun s) f.name f
-  free_at listed are s state f at is =
-      is_free codes listed are old.parts.items (begun s) (state_picked codes listed old s state) index is_named.function f is_named.there at is
+  shut_here : (members : List Member) (s : State) → IsState codes members old s → IsShut members old s
+  shut_here members s state = shut codes members old at.expected at.others at.expecting (only_parts at.expected name stack at.allowed) s state
+
+  -- the member of its index
+  free_at : (members : List Member) → (are : AreMembers codes members) → (parts : List Member) → ArePicked members old.parts.items parts → (f : Member) → slice_get members index ≡ Some f
+      → IsListed is_named.function f.listed → IsFree members parts f.listed.name f
+  free_at members are parts picked f there is =
+      is_free codes members are old.parts.items parts picked index is_named.function f is_named.there there is
       (λ has. free (subst (HasPart codes old.parts.items) is_named.named has))
 
   keeps_last : BeginsAt is_named.function old now index stack (Ok (tt {0})) → (before : List ℕ) (k : ℕ) (other : Listed) → now.parts.items ≡ before ++ k ∷ []
@@ -139,34 +194,48 @@ module _ (codes : List Listed) (old now : Walk) (name : List ℕ) (stack line in
       let same : is_named.function ≡ other = one_item codes k is_named.function other (ap (slice_get codes) last.1 ∙ is_named.there) there in
       subst (λ (g : Listed). Keeps g now) same (subst (Keeps is_named.function) (sym begins.4) begins.1.kept)
 
-  stays : BeginsAt is_named.function old now index stack (Ok (tt {0})) → jobs_of now.bank (frame_at is_named.function) now.jobs.items ≡ spec.Prove (frame_at is_named.function) ∷ []
-  stays begins = ap (λ (w : Walk). jobs_of w.bank (frame_at is_named.function) w.jobs.items) begins.4 ∙ begins.1.jobs
+  stays : BeginsAt is_named.function old now index stack (Ok (tt {0})) → walk_jobs now is_named.function ≡ spec.Prove AtEntry (frame_at is_named.function) ∷ []
+  stays begins = ap (λ (w : Walk). walk_jobs w is_named.function) begins.4 ∙ begins.1.jobs
 
-  begins_step : BeginsAt is_named.function old now index stack (Ok (tt {0})) → (listed : List spec.Listed) (ahead : List Line) → AreListed codes listed → (s : State) → IsState codes listed old s
-      → StepsTo codes listed ahead now s (Function name stack) line (Ok (tt {0}))
-  begins_step begins listed ahead are s state =
-      let found = listed_there codes listed are index is_named.function is_named.there in
+  begins_step : BeginsAt is_named.function old now index stack (Ok (tt {0})) → (fs : Functions) (members : List Member) (offset : ℕ) → AreMembers codes members → (s : State)
+      → IsState codes members old s → StepsTo codes fs members offset now s (Function name stack) line (Ok (tt {0}))
+  begins_step begins fs members offset are s state =
+      let found = member_there codes members are index is_named.function is_named.there in
       let f = found.0 in
       let is = found.2 in
-      let passes : Passes listed ahead s (Function name stack) (Inside (begun s) f (spec.Prove f.frame ∷ [])) =
-      subst (λ (n : List ℕ). Passes listed ahead s (Function n stack) (Inside (begun s) f (spec.Prove f.frame ∷ []))) (is.named ∙ is_named.named)
-      (subst (λ (n : ℕ). Passes listed ahead s (Function f.name n) (Inside (begun s) f (spec.Prove f.frame ∷ []))) (is.stack_is ∙ begins.2)
-      (spec.function s f (free_at listed are s state f found.1 is))) in
-      let jobs : jobs_of now.bank (frame_at is_named.function) now.jobs.items ≡ spec.Prove f.frame ∷ [] =
-      stays begins ∙ ap (λ (frame : Frame). spec.Prove frame ∷ []) (sym is.frame_is) in
-      let at : IsState codes listed now (Inside (begun s) f (jobs_of now.bank (frame_at is_named.function) now.jobs.items)) =
-      inside old.parts.items index is_named.function f (begun s) begins.3 is_named.there found.1 (state_picked codes listed old s state) in
-      (Inside (begun s) f (spec.Prove f.frame ∷ []), passes, inr (subst (λ (js : List spec.Job). IsState codes listed now (Inside (begun s) f js)) jobs at))
+      let was = shut_here members s state in
+      let next = Unfolding was.parts f (unfolded f) in
+      let accepts : parts_of.Accepts fs members offset s (Function name stack) next =
+      subst (λ (n : List ℕ). parts_of.Accepts fs members offset s (Function n stack) next) (is.named ∙ is_named.named)
+      (subst (λ (n : ℕ). parts_of.Accepts fs members offset s (Function f.listed.name n) next) (is.stack_is ∙ begins.2)
+      (parts_of.function s was.parts f was.has (free_at members are was.parts was.picked f found.1 is))) in
+      let part : IsPart codes members now is_named.function f was.parts = record {
+        before = old.parts.items;
+        index = index;
+        split = begins.3;
+        found = is_named.there;
+        member = found.1;
+        picked = was.picked;
+      } in (
+        next,
+        walks.goes_on offset s next (Function name stack) refl accepts,
+        inr (unfolding_part is_named.function f was.parts part (stays begins ∙ ap (λ (frame : Frame). spec.Prove AtEntry frame ∷ []) (sym is.frame_is))),
+      )
 
-  other_stack : (function_stack : is_named.function.stack ≡ stack → ⊥) → (listed : List spec.Listed) (ahead : List Line) → AreListed codes listed → (s : State) → IsState codes listed old s
-      → StepsTo codes listed ahead now s (Function name stack) line (Err (Fault (Broken (named.Listed index) fault.Stack)))
-  other_stack apart listed ahead are s state =
-      let found = listed_there codes listed are index is_named.function is_named.there in
+  other_stack : (function_stack : is_named.function.stack ≡ stack → ⊥) → (fs : Functions) (members : List Member) (offset : ℕ) → AreMembers codes members → (s : State)
+      → IsState codes members old s → StepsTo codes fs members offset now s (Function name stack) line (Err (Fault (Broken (named.Listed index) fault.Stack)))
+  other_stack apart fs members offset are s state =
+      let found = member_there codes members are index is_named.function is_named.there in
       let f = found.0 in
       let is = found.2 in
-      let same : f.name ≡ name = is.named ∙ is_named.named in
-      let free_here = subst (λ (n : List ℕ). spec.IsFree listed (begun s) n f) same (free_at listed are s state f found.1 is) in
-      (name, is_named, spec.stack s name stack f free_here (λ e. apart (sym is.stack_is ∙ sym e)))
+      let was = shut_here members s state in
+      let same : f.listed.name ≡ name = is.named ∙ is_named.named in
+      let free_here = subst (λ (n : List ℕ). IsFree members was.parts n f) same (free_at members are was.parts was.picked f found.1 is) in (
+        name,
+        is_named,
+        walks.stops offset s (Function name stack) offset name (lines.Breaks fault.Stack) refl
+            (parts_of.other_stack s was.parts name stack f was.has free_here (λ e. apart (sym is.stack_is ∙ sym e))),
+      )
 
   begun_goes : (result : Result (Unit {0}) (Refusal NamedFault)) → BeginsAt is_named.function old now index stack result → Goes codes old now (Function name stack) line result
   begun_goes (Ok done) begins =
@@ -174,7 +243,7 @@ module _ (codes : List Listed) (old now : Walk) (name : List ℕ) (stack line in
       record {
         sound = record {
           indices = subst (AreIndices (length codes)) (sym parts)
-              (All-push (λ (k : ℕ). k < length codes) old.parts.items index sound.indices (slice_get_within codes index is_named.function is_named.there));
+              (All-push (λ (k : ℕ). k < length codes) old.parts.items index at.sound.indices (slice_get_within codes index is_named.function is_named.there));
           kept = keeps_last begins;
         };
         follows = function_follows old now name stack (some_item now.parts.items old.parts.items index parts)
@@ -184,10 +253,11 @@ module _ (codes : List Listed) (old now : Walk) (name : List ℕ) (stack line in
   begun_goes (Err (Fault (Broken (named.Listed k) fault.Stack))) begins = record {
     sound = tt;
     follows = tt;
-    step = λ listed ahead are s state.
-        subst (λ (n : ℕ). StepsTo codes listed ahead now s (Function name stack) line (Err (Fault (Broken (named.Listed n) fault.Stack)))) (sym begins.0) (other_stack begins.1 listed ahead are s state);
+    step = λ fs members offset are s state.
+        subst (λ (n : ℕ). StepsTo codes fs members offset now s (Function name stack) line (Err (Fault (Broken (named.Listed n) fault.Stack)))) (sym begins.0)
+        (other_stack begins.1 fs members offset are s state);
   }
-  begun_goes (Err NoMemory) begins = record { sound = tt; follows = tt; step = λ listed ahead are s state. tt }
+  begun_goes (Err NoMemory) begins = record { sound = tt; follows = tt; step = λ fs members offset are s state. tt }
   begun_goes (Err (Fault (Broken (named.Listed k) fault.Later))) begins = absurd begins
   begun_goes (Err (Fault (Broken (named.Listed k) fault.Inline))) begins = absurd begins
   begun_goes (Err (Fault (Broken (named.Listed k) fault.Point))) begins = absurd begins
@@ -213,48 +283,73 @@ begins_for codes old now index stack result function there begins = λ other als
     subst (λ (g : Listed). BeginsAt g old now index stack result) (one_item codes index function other there also) begins
 
 -- the listed function of an index has the name, and no part yet
-pub begin_goes : (codes : List Listed) (old now : Walk) (name : List ℕ) (stack line index : ℕ) → IsSound codes old
+pub begin_goes : (codes : List Listed) (old now : Walk) (name : List ℕ) (stack line index : ℕ) → IsWalk codes old (Function name stack)
     → IsFreeAt codes old.parts.items name (Some index) → (result : Result (Unit {0}) (Refusal NamedFault)) → Begins codes old now index stack result → Goes codes old now (Function name stack) line result
-begin_goes codes old now name stack line index sound free result begins =
-    begun_goes codes old now name stack line index sound free.0 free.1 result (begins free.0.function free.0.there)
+begin_goes codes old now name stack line index at free result begins =
+    begun_goes codes old now name stack line index at free.0 free.1 result (begins free.0.function free.0.there)
 
 -- there is none
-pub stranger_goes : (codes : List Listed) (old now : Walk) (name : List ℕ) (stack line : ℕ) → IsFreeAt codes old.parts.items name None
+pub stranger_goes : (codes : List Listed) (old now : Walk) (name : List ℕ) (stack line : ℕ) → IsWalk codes old (Function name stack) → IsFreeAt codes old.parts.items name None
     → Goes codes old now (Function name stack) line (Err (Fault (Broken (named.Line line) fault.Stranger)))
-stranger_goes codes old now name stack line none = record {
+stranger_goes codes old now name stack line at none = record {
   sound = tt;
   follows = tt;
-  step = λ listed ahead are s state. (
-    name,
-    (refl, stack, refl),
-    spec.stranger s name stack (never_free codes listed are old.parts.items (begun s) (state_picked codes listed old s state) name none),
-  );
+  step = λ fs members offset are s state.
+      let was = shut codes members old at.expected at.others at.expecting (only_parts at.expected name stack at.allowed) s state in (
+        name,
+        (refl, stack, refl),
+        walks.stops offset s (Function name stack) offset name (lines.Breaks fault.Stranger) refl
+            (parts_of.unlisted s was.parts name stack was.has (never_free codes members are old.parts.items was.parts was.picked name none)),
+      );
 }
 
 -- ---- the end
 
+only_end : (e : Expected) → can_stand e End ≡ true → e ≡ TheParts
+only_end AHeader h = absurd (cc)
+only_end TheParts h = refl
+only_end BinaryInlines h = absurd (cc)
+only_end SourceInlines h = absurd (cc)
+only_end (AProof room) h = absurd (cc)
+only_end ARelation h = absurd (cc)
+only_end ALog h = absurd (cc)
+only_end AStep h = absurd (cc)
+
 module _ (codes : List Listed) (walk : Walk) (at : IsWalk codes walk End) (index : ℕ) where
   end_follows : ExpectsAfter walk walk End
-  end_follows = λ e others expecting allowed. subst (Expecting walk) (sym (ends walk e others expecting allowed)) at_end
+  end_follows = λ e others expecting allowed. inl refl
 
-  missing_step : (k : ℕ) → IsMissingAt codes walk.parts.items (Some k) → (listed : List spec.Listed) (ahead : List Line) → AreListed codes listed → (s : State) → IsState codes listed walk s
-      → StepsTo codes listed ahead walk s End index (Err (Fault (Broken (named.Listed k) fault.Missing)))
-  missing_step k missing listed ahead are s state =
-      let found = listed_there codes listed are k missing.0 missing.1 in (
-        found.0.name,
+  shut_end : (members : List Member) (s : State) → IsState codes members walk s → IsShut members walk s
+  shut_end members s state = shut codes members walk at.expected at.others at.expecting (only_end at.expected at.allowed) s state
+
+  all_step : IsMissingAt codes walk.parts.items None → (fs : Functions) (members : List Member) (offset : ℕ) → AreMembers codes members → (s : State) → IsState codes members walk s
+      → StepsTo codes fs members offset walk s End index (Ok (tt {0}))
+  all_step all fs members offset are s state =
+      let was = shut_end members s state in (
+        Between was.parts,
+        walks.goes_on offset s (Between was.parts) End refl
+            (parts_of.last s was.parts was.has (none_missing codes members are walk.parts.items was.parts was.picked all)),
+        inl refl,
+      )
+
+  missing_step : (k : ℕ) → IsMissingAt codes walk.parts.items (Some k) → (fs : Functions) (members : List Member) (offset : ℕ) → AreMembers codes members → (s : State)
+      → IsState codes members walk s → StepsTo codes fs members offset walk s End index (Err (Fault (Broken (named.Listed k) fault.Missing)))
+  missing_step k missing fs members offset are s state =
+      let found = member_there codes members are k missing.0 missing.1 in
+      let f = found.0 in
+      let was = shut_end members s state in (
+        f.listed.name,
         record { function = missing.0; there = missing.1; named = sym found.2.named },
-        spec.missing s found.0 (is_missing codes listed are walk.parts.items (begun s) (state_picked codes listed walk s state) k missing.0 found.0 missing.1 found.1 found.2 missing.2 missing.3),
+        walks.stops offset s End offset f.listed.name (lines.Breaks fault.Missing) refl
+            (parts_of.lacking s was.parts f.listed was.has
+            (is_missing codes members are walk.parts.items was.parts was.picked k missing.0 f missing.1 found.1 found.2 missing.2 missing.3)),
       )
 
   pub end_goes : (result : Result (Unit {0}) (Refusal NamedFault)) → Ends codes walk.parts.items result → Goes codes walk walk End index result
   end_goes (Ok done) all = record {
     sound = at.sound;
     follows = end_follows;
-    step = λ listed ahead are s state. (
-      Between (begun s),
-      spec.last s (none_missing codes listed are walk.parts.items (begun s) (state_picked codes listed walk s state) all),
-      inl refl,
-    );
+    step = all_step all;
   }
   end_goes (Err (Fault (Broken (named.Listed k) fault.Missing))) missing = record { sound = tt; follows = tt; step = missing_step k missing }
   end_goes (Err NoMemory) missing = absurd missing
@@ -362,45 +457,60 @@ module _ (codes : List Listed) (old now : Walk) (line : CodeLine) (index part : 
 
   follows_inside : now.parts ≡ old.parts → ((e : Expected) (others : List Expected) → AreOf (e ∷ others) old.jobs.items → can_stand e (line_of line) ≡ true
       → AreOf (after e (line_of line) ++ others) now.jobs.items) → ExpectsAfter old now (line_of line)
-  follows_inside same after_line = λ e others expecting allowed. by e others expecting allowed
+  follows_inside same after_line = λ e others expecting allowed. inr (by e others expecting allowed)
     where
       by : (e : Expected) (others : List Expected) → Expecting old (e ∷ others) → can_stand e (line_of line) ≡ true → Expecting now (after e (line_of line) ++ others)
       by _ _ (at_header empty) allowed = absurd (no_item old.parts.items before part empty last)
       by _ _ (at_first empty) allowed = absurd (no_item old.parts.items before part empty last)
       by e others (in_part _ some are) allowed = in_part (after e (line_of line) ++ others) (some_now same) (after_line e others are allowed)
 
-  steps_inside : (result : Result (Unit {0}) (Refusal NamedFault)) → now.parts ≡ old.parts → (listed : List spec.Listed) (ahead : List Line) (parts : List spec.Listed) (f : spec.Listed) (first : List ℕ) → IsListed function f
-      → old.parts.items ≡ first ++ part ∷ [] → slice_get listed part ≡ Some f → ArePicked listed first parts
-      → ComesAt listed ahead parts f (jobs_of old.bank (frame_at function) old.jobs.items) (jobs_of now.bank (frame_at function) now.jobs.items) (line_of line) part result
-      → StepsTo codes listed ahead now (Inside parts f (jobs_of old.bank (frame_at function) old.jobs.items)) (line_of line) index result
-  steps_inside (Ok done) same listed ahead parts f first is split there picked comes =
-      let at : IsState codes listed now (Inside parts f (jobs_of now.bank (frame_at function) now.jobs.items)) =
-      inside first part function f parts (ap (λ (list : Vec ℕ Global). list.items) same ∙ split) function_there there picked in
-      (Inside parts f (jobs_of now.bank (frame_at function) now.jobs.items), comes, inr at)
-  steps_inside (Err (Fault (Broken (named.Listed k) rule))) same listed ahead parts f first is split there picked comes =
-      let here : IsNamed codes part f.name = record { function = function; there = function_there; named = sym is.named } in
-      (f.name, subst (λ (n : ℕ). IsNamed codes n f.name) (sym comes.0) here, comes.1)
-  steps_inside (Err (Fault (Broken (named.Line n) rule))) same listed ahead parts f first is split there picked comes = absurd comes
-  steps_inside (Err (Fault (Above q))) same listed ahead parts f first is split there picked comes = comes
-  steps_inside (Err NoMemory) same listed ahead parts f first is split there picked comes = tt
+  breaks_there : (fs : Functions) (members : List Member) (offset : ℕ) (s : State) (x : IsLast codes members old function s) (rule : RuleWord)
+      → Breaks (part_of fs x.parts x.f (unfolded x.f)) offset (walk_jobs old function) (line_of line) rule
+      → Takes fs members is_known (Going offset s) (line_of line) (Stopped offset x.f.listed.name (lines.Breaks rule))
+  breaks_there fs members offset s x rule (inl fails) =
+      walks.stops offset s (line_of line) offset x.f.listed.name (lines.Breaks rule) fails.0
+      (rejects_there fs members x.parts x.f (walk_jobs old function) offset (line_of line) offset (lines.Breaks rule) s x.has fails.1)
+  breaks_there fs members offset s x rule (inr later) =
+      subst (λ (word : RuleWord). Takes fs members is_known (Going offset s) (line_of line) (Stopped offset x.f.listed.name (lines.Breaks word))) (sym later.1)
+      (walks.unknown offset s (line_of line) x.f (begun_there x.parts x.f (walk_jobs old function) s x.has) later.0)
+
+  steps_inside : (result : Result (Unit {0}) (Refusal NamedFault)) → now.parts ≡ old.parts → (fs : Functions) (members : List Member) (offset : ℕ) (s : State) → (x : IsLast codes members old function s)
+      → ComesAt (part_of fs x.parts x.f (unfolded x.f)) offset (walk_jobs old function) (walk_jobs now function) (line_of line) part result
+      → StepsTo codes fs members offset now s (line_of line) index result
+  steps_inside (Ok done) same fs members offset s x comes =
+      let next = Inside x.parts x.f (unfolded x.f) (walk_jobs now function) in
+      let here : IsPart codes members now function x.f x.parts = record {
+        before = x.part.before;
+        index = x.part.index;
+        split = ap (λ (list : Vec ℕ Global). list.items) same ∙ x.part.split;
+        found = x.part.found;
+        member = x.part.member;
+        picked = x.part.picked;
+      } in (
+        next,
+        walks.goes_on offset s next (line_of line) comes.0
+            (accepts_there fs members x.parts x.f (walk_jobs old function) offset (line_of line) (walk_jobs now function) s x.has comes.1),
+        inr (inside function x.f x.parts here),
+      )
+  steps_inside (Err (Fault (Broken (named.Listed k) rule))) same fs members offset s x comes =
+      let here : IsNamed codes part x.f.listed.name = record { function = function; there = function_there; named = sym x.is.named } in
+      (x.f.listed.name, subst (λ (n : ℕ). IsNamed codes n x.f.listed.name) (sym comes.0) here, breaks_there fs members offset s x rule comes.1)
+  steps_inside (Err (Fault (Broken (named.Line n) rule))) same fs members offset s x comes = absurd comes
+  steps_inside (Err (Fault (Above q))) same fs members offset s x comes = (
+    x.f.listed.name,
+    walks.stops offset s (line_of line) offset x.f.listed.name (lines.Above q) comes.0
+        (rejects_there fs members x.parts x.f (walk_jobs old function) offset (line_of line) offset (lines.Above q) s x.has comes.1),
+  )
+  steps_inside (Err NoMemory) same fs members offset s x comes = tt
 
   pub inside_goes : (result : Result (Unit {0}) (Refusal NamedFault)) → IsInPart function old now (line_of line) part result → Goes codes old now (line_of line) index result
   inside_goes result goes = record {
     sound = on_ok_weaker result (kept_inside goes.parts) goes.kept;
     follows = on_ok_weaker result (follows_inside goes.parts) goes.follows;
-    step = λ listed ahead are s state. by listed ahead are s state;
+    step = λ fs members offset are s state.
+        let x = last_of codes members old are before part last function function_there s state in
+        steps_inside result goes.parts fs members offset s x (goes.step fs x.parts x.f offset x.is);
   }
-    where
-      by : (listed : List spec.Listed) (ahead : List Line) → AreListed codes listed → (s : State) → IsState codes listed old s → StepsTo codes listed ahead now s (line_of line) index result
-      by listed ahead are _ (between empty) = absurd (no_item old.parts.items before part empty last)
-      by listed ahead are _ (inside first k found f parts split there at picked) =
-          let ends_so = same_from_push before first part k (sym last ∙ split) in
-          let equal : function ≡ found = one_item codes k function found (ap (slice_get codes) (sym ends_so.1) ∙ function_there) there in
-          let here : slice_get listed part ≡ Some f = ap (slice_get listed) ends_so.1 ∙ at in
-          let is = are.each part function f function_there here in
-          let split_here : old.parts.items ≡ first ++ part ∷ [] = split ∙ ap (λ (n : ℕ). first ++ n ∷ []) (sym ends_so.1) in
-          subst (λ (g : Listed). StepsTo codes listed ahead now (Inside parts f (jobs_of old.bank (frame_at g) old.jobs.items)) (line_of line) index result) equal
-          (steps_inside result goes.parts listed ahead parts f first is split_here here picked (goes.step listed ahead parts f is))
 
 no_relation : (e : Expected) → IsOfProof e → (t : List Symbol) → can_stand e (Relation t) ≡ true → ⊥
 no_relation _ of_binary t h = absurd (cc)
@@ -412,8 +522,8 @@ never_relation t _ _ _ no_job h = absurd (cc)
 never_relation t e others jobs (a_proof _ _ below _ premises of are same) h = no_relation e of t h
 never_relation t _ others jobs (a_log _ below _ goal are same) h = absurd (cc)
 
--- a line that is no log, Leaf or Case and no rule that isn't checked yet can't be next
-pub no_other_line : (line : CodeLine) (jobs : List Job) → IsNext jobs (line_of line) → IsInside line → is_unchecked (line_of line) ≡ false → ((n : ℕ) → line ≡ code.Leaf n → ⊥)
+-- a line that is no log, Leaf or Case and of a rule that is checked can't be next
+pub no_other_line : (line : CodeLine) (jobs : List Job) → IsNext jobs (line_of line) → IsInside line → is_known (line_of line) ≡ true → ((n : ℕ) → line ≡ code.Leaf n → ⊥)
     → ((t : _) → line ≡ code.Case t → ⊥) → IsPlain line → ⊥
 no_other_line code.Header jobs next is checked no_leaf no_case plain = absurd (cc)
 no_other_line (code.Function part) jobs next is checked no_leaf no_case plain = absurd (cc)
@@ -432,34 +542,35 @@ no_other_line code.End jobs next is checked no_leaf no_case plain = absurd (cc)
 
 -- ---- the outcome of a line inside a part
 
-comes_named : (listed : List spec.Listed) (ahead : List Line) (parts : List spec.Listed) (f : spec.Listed) (before after : List spec.Job) (line : Line) (index : ℕ) (broken : Refusal PartFault)
-    → Comes listed ahead parts f before after line (Err broken) → ComesAt listed ahead parts f before after line index (Err (named_fault index broken))
-comes_named listed ahead parts f before after line index (Fault (inner.Broken rule)) comes = (refl, comes)
-comes_named listed ahead parts f before after line index (Fault (inner.Above q)) comes = comes
-comes_named listed ahead parts f before after line index NoMemory comes = tt
+comes_named : (p : Part) (offset : ℕ) (before after : List spec.Job) (line : Line) (index : ℕ) (broken : Refusal PartFault) → is_known line ≡ true
+    → Comes p offset before after line (Err broken) → ComesAt p offset before after line index (Err (named_fault index broken))
+comes_named p offset before after line index (Fault (inner.Broken rule)) is comes = (refl, inl (is, comes))
+comes_named p offset before after line index (Fault (inner.Above q)) is comes = (is, comes)
+comes_named p offset before after line index NoMemory is comes = tt
 
 module _ (codes : List Listed) (old now : Walk) (line : Line) (index : ℕ) (function : Listed) (there : slice_get codes index ≡ Some function) (same : now.parts ≡ old.parts) where
   for_each : (result : Result (Unit {0}) (Refusal NamedFault)) → IsInPart function old now line index result → GoesInside codes old now index line result
   for_each result goes = λ other also.
       subst (λ (g : Listed). IsInPart g old now line index result) (one_item codes index function other there also) goes
 
-  pub passes_inside : IsStep function old.bank now.bank old.jobs.items now.jobs.items line (Ok (tt {0})) → Keeps function now → AreAfter old.jobs.items line now.jobs.items
-      → GoesInside codes old now index line (Ok (tt {0}))
-  passes_inside step keeps follows = for_each (Ok (tt {0})) (record {
-    step = λ listed ahead parts f is. step listed ahead parts f is;
-    kept = keeps;
-    follows = follows;
-    parts = same;
-  })
+  pub passes_inside : is_known line ≡ true → IsStep function old.bank now.bank old.jobs.items now.jobs.items line (Ok (tt {0})) → Keeps function now
+      → AreAfter old.jobs.items line now.jobs.items → GoesInside codes old now index line (Ok (tt {0}))
+  passes_inside is step keeps follows =
+      for_each (Ok (tt {0})) (record { step = λ fs parts f offset listed. (is, step fs parts f offset listed); kept = keeps; follows = follows; parts = same })
 
-  pub fails_inside : (broken : Refusal PartFault) (answer : Refusal NamedFault) → answer ≡ named_fault index broken
+  pub fails_inside : (broken : Refusal PartFault) (answer : Refusal NamedFault) → is_known line ≡ true → answer ≡ named_fault index broken
       → IsStep function old.bank now.bank old.jobs.items now.jobs.items line (Err broken) → GoesInside codes old now index line (Err answer)
-  fails_inside broken answer is step = subst (λ (x : Refusal NamedFault). GoesInside codes old now index line (Err x)) (sym is)
+  fails_inside broken answer is_so is step = subst (λ (x : Refusal NamedFault). GoesInside codes old now index line (Err x)) (sym is)
       (for_each (Err (named_fault index broken)) (record {
-        step = λ listed ahead parts f listed_so.
-            comes_named listed ahead parts f (jobs_of old.bank (frame_at function) old.jobs.items) (jobs_of now.bank (frame_at function) now.jobs.items) line index broken
-            (step listed ahead parts f listed_so);
+        step = λ fs parts f offset listed.
+            comes_named (part_of fs parts f (unfolded f)) offset (walk_jobs old function) (walk_jobs now function) line index broken is_so (step fs parts f offset listed);
         kept = tt;
         follows = tt;
         parts = same;
       }))
+
+  -- a line of a rule that isn't checked
+  pub later_inside : is_known line ≡ false → GoesInside codes old now index line (Err (Fault (Broken (named.Listed index) fault.Later)))
+  later_inside none =
+      for_each (Err (Fault (Broken (named.Listed index) fault.Later)))
+      (record { step = λ fs parts f offset listed. (refl, inr (none, refl)); kept = tt; follows = tt; parts = same })

@@ -5,9 +5,14 @@ pub mod Leaving
 pub mod InPart
 pub mod Opened
 pub mod Picked
-pub mod Walked
-pub mod Turns
+pub mod States
+pub mod Plain
+pub mod Expected
 pub mod Entered
+pub mod LogRules
+pub mod Stepped
 pub mod LogLines
-pub mod Placed
+pub mod Checking
+pub mod Lined
+pub mod Verdicts
 pub mod Names

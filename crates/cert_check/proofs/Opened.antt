@@ -8,7 +8,8 @@ use Rattle.path_cond.specs.States.{IsMapOf}
 use Rattle.sim_rules_terms.proofs.Later.{map_later}
 use Rattle.proof_tree_spec.specs.Frames.{Frame}
 use Rattle.cert_text_spec.specs.Certificates.{TheParts, BinaryInlines}
-use Rattle.cert_check_spec.specs.Verdict as spec
+use Rattle.cert_check_lines_spec.specs.Jobs as spec
+use Rattle.cert_check_lines_spec.specs.Jobs.{AtEntry}
 use Rattle.cert_check_frames.specs.declared.jobs.Branch.{Branch}
 use Rattle.cert_check_frames.specs.declared.jobs.Job.TheVariants.{Prove}
 use Rattle.cert_check_frames.specs.declared.listed.Listed.{Listed}
@@ -37,5 +38,5 @@ opened function old now first premises same none is known grows known_after = re
   jobs =
       jobs_top now.bank (frame_at function) now.jobs.items [] (Prove premises) is
       ∙ ap (λ (jobs : List spec.Job). job_of now.bank (frame_at function) (Prove premises) ∷ jobs) (no_jobs now.bank (frame_at function))
-      ∙ ap (λ (frame : Frame). spec.Prove frame ∷ []) (ap (λ (list : List Branch). frame_with (frame_at function) (premises_at now.bank list)) none ∙ with_none now.bank (frame_at function));
+      ∙ ap (λ (frame : Frame). spec.Prove AtEntry frame ∷ []) (ap (λ (list : List Branch). frame_with (frame_at function) (premises_at now.bank list)) none ∙ with_none now.bank (frame_at function));
 }

@@ -6,8 +6,9 @@ use Rattle.term_core_spec.specs.Term.{Term, not_term}
 use Rattle.term_bank.specs.Nodes.{tree_at, Extends}
 use Rattle.path_cond.proofs.Banks as banks
 use Rattle.proof_tree_spec.specs.Frames.{Frame}
-use Rattle.cert_check_spec.specs.Verdict as spec
-use Rattle.cert_check_spec.specs.Verdict.{with_test}
+use Rattle.cert_check_lines_spec.specs.Jobs as spec
+use Rattle.cert_check_lines_spec.specs.Jobs.{AtEntry}
+use Rattle.cert_check_lines_spec.specs.LineRules.{with_test}
 use Rattle.cert_check_frames.specs.declared.jobs.Branch.{Branch}
 use Rattle.cert_check_frames.specs.declared.jobs.Job.{Job}
 use Rattle.cert_check_frames.specs.declared.jobs.Job.TheVariants.{Prove, Close}
@@ -75,7 +76,7 @@ module _ (before now : List Term) (extends : Extends before now) where
       ∙ ap (λ (terms : List Term). premise_at before b ∷ terms) (same_premises premises (All-tail (λ (c : Branch). c.test < length before) b premises below))
 
   same_job : (f : Frame) (job : Job) → IsInside (length before) job → job_of now f job ≡ job_of before f job
-  same_job f (Prove premises) inside = ap (λ (terms : List Term). spec.Prove (frame_with f terms)) (same_premises premises.items inside)
+  same_job f (Prove premises) inside = ap (λ (terms : List Term). spec.Prove AtEntry (frame_with f terms)) (same_premises premises.items inside)
   same_job f (Close goal) inside = ap spec.Close (same_tree goal inside)
 
   same_stacked : (f : Frame) (below : List spec.Job) (jobs : List Job) → AreInside (length before) jobs → stacked now f below jobs ≡ stacked before f below jobs
@@ -131,14 +132,14 @@ branches_inside n old new premises test has inside below within =
 
 -- both proofs after a Case are of the frame with the test, and with its negation
 pub branches_jobs : (trees : List Term) (f : Frame) (old new : List Job) (premises : List Branch) (test : ℕ) → HasBranches old new premises test
-    → jobs_of trees f new ≡ spec.Prove (with_test (frame_with f (premises_at trees premises)) (tree_at trees test))
-    ∷ spec.Prove (with_test (frame_with f (premises_at trees premises)) (not_term (tree_at trees test))) ∷ jobs_of trees f old
+    → jobs_of trees f new ≡ spec.Prove AtEntry (with_test (frame_with f (premises_at trees premises)) (tree_at trees test))
+    ∷ spec.Prove AtEntry (with_test (frame_with f (premises_at trees premises)) (not_term (tree_at trees test))) ∷ jobs_of trees f old
 branches_jobs trees f old new premises test has =
     jobs_top trees f new (old ++ Prove has.fails ∷ []) (Prove has.holds) has.now
-    ∙ ap (λ (g : Frame). spec.Prove g ∷ jobs_of trees f (old ++ Prove has.fails ∷ [])) (with_branch trees f premises has.holds.items (record { test = test; holds = true }) has.holds_are)
-    ∙ ap (λ (jobs : List spec.Job). spec.Prove (with_test (frame_with f (premises_at trees premises)) (tree_at trees test)) ∷ jobs)
+    ∙ ap (λ (g : Frame). spec.Prove AtEntry g ∷ jobs_of trees f (old ++ Prove has.fails ∷ [])) (with_branch trees f premises has.holds.items (record { test = test; holds = true }) has.holds_are)
+    ∙ ap (λ (jobs : List spec.Job). spec.Prove AtEntry (with_test (frame_with f (premises_at trees premises)) (tree_at trees test)) ∷ jobs)
     (jobs_top trees f (old ++ Prove has.fails ∷ []) old (Prove has.fails) refl
-    ∙ ap (λ (g : Frame). spec.Prove g ∷ jobs_of trees f old) (with_branch trees f premises has.fails.items (record { test = test; holds = false }) has.fails_are))
+    ∙ ap (λ (g : Frame). spec.Prove AtEntry g ∷ jobs_of trees f old) (with_branch trees f premises has.fails.items (record { test = test; holds = false }) has.fails_are))
 
 pub logs_inside : (n : ℕ) (goals : List ℕ) → All (λ (g : ℕ). g < n) goals → AreInside n (logs_last goals)
 unfolding logs_last

@@ -1,7 +1,7 @@
 -- What the grammar of certificates expects where these are the jobs of a part.
-use Rattle.std.specs.Prelude.{◌≡◌, ℕ, Bool, true, false, Vec, List, [], ◌∷◌, ◌++◌}
+use Rattle.std.specs.Prelude.{◌≡◌, ℕ, true, Vec, List, [], ◌∷◌, ◌++◌}
 use Rattle.std.specs.Global.{Global}
-use Rattle.cert_text_spec.specs.Lines.{Line, InlineBinary, InlineSource, RestrictBinary, RestrictSource, Split, Call}
+use Rattle.cert_text_spec.specs.Lines.{Line}
 use Rattle.cert_text_spec.specs.Certificates.{Expected, TheParts, BinaryInlines, SourceInlines, AProof, ALog, after, can_stand}
 use Rattle.cert_check_frames.specs.declared.jobs.Branch.{Branch}
 use Rattle.cert_check_frames.specs.declared.jobs.Job.{Job}
@@ -30,13 +30,3 @@ pub record IsNext (jobs : List Job) (line : Line) : Type 0 where
 -- after the line these are the jobs
 abbrev pub AreAfter : (before : List Job) → Line → (now : List Job) → Type 0
 AreAfter before line now = (e : Expected) (others : List Expected) → AreOf (e ∷ others) before → can_stand e line ≡ true → AreOf (after e line ++ others) now
-
--- the line is of a rule that isn't checked yet, or inlines a call
-abbrev pub is_unchecked : Line → Bool
-is_unchecked (InlineBinary p) = true
-is_unchecked (InlineSource p) = true
-is_unchecked (RestrictBinary p count) = true
-is_unchecked (RestrictSource p count) = true
-is_unchecked (Split p enter step relations) = true
-is_unchecked (Call p counts before after) = true
-is_unchecked line = false

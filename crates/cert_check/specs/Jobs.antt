@@ -4,12 +4,13 @@ use Rattle.std.specs.Prelude.{List, [], ◌∷◌}
 use Rattle.term_core_spec.specs.Term.{Term}
 use Rattle.term_bank.specs.Nodes.{tree_at}
 use Rattle.proof_tree_spec.specs.Frames.{Frame}
-use Rattle.cert_check_spec.specs.Verdict as spec
+use Rattle.cert_check_lines_spec.specs.Jobs as spec
+use Rattle.cert_check_lines_spec.specs.Jobs.{AtEntry}
 use Rattle.cert_check_frames.specs.declared.jobs.Job.{Job}
 use Rattle.cert_check_frames.specs.declared.jobs.Job.TheVariants.{Prove, Close}
 
 abbrev pub job_of : (trees : List Term) → Frame → Job → spec.Job
-job_of trees f (Prove premises) = spec.Prove (frame_with f (premises_at trees premises.items))
+job_of trees f (Prove premises) = spec.Prove AtEntry (frame_with f (premises_at trees premises.items))
 job_of trees f (Close goal) = spec.Close (tree_at trees goal)
 
 -- jobs, before those below

@@ -1,6 +1,7 @@
 pub mod Jobs
-pub mod Logs
 pub mod Expectations
 pub mod Steps
 pub mod Walks
+pub mod Logs
+pub mod Checkers
 pub mod Outcomes

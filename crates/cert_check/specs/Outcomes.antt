@@ -6,12 +6,13 @@ use Rattle.cert_text_parse.specs.declared.lines.Line.TheVariants as code
 use Rattle.cert_text.specs.declared.certificates.Cert.{Cert}
 use Rattle.cert_text.specs.Certificates.{certificate_of, text_of}
 use Rattle.cert_check_spec.specs.Verdict as spec
-use Rattle.cert_check_spec.specs.Verdict.{IsProof, IsFault}
+use Rattle.cert_check_lines_spec.specs.Known.{IsProof, IsFault, IsLimit}
 use Rattle.cert_check.specs.declared.fault.Named.{Named}
 use Rattle.cert_check.specs.declared.fault.Named.TheVariants as named
 use Rattle.attempt.specs.declared.refusal.Refusal.{Refusal}
 use Rattle.attempt.specs.declared.refusal.Refusal.TheVariants.{Fault, NoMemory}
 use Rattle.cert_check.specs.declared.fault.NamedFault.{NamedFault}
+use Rattle.cert_check.specs.declared.fault.Placed.{Placed}
 use Rattle.cert_check.specs.declared.fault.CheckFault.{CheckFault}
 use Rattle.cert_check.specs.declared.fault.CheckFault.TheVariants.{NotProof, Limit}
 use Rattle.cert_check.specs.declared.fault.NamedFault.TheVariants as fault
@@ -40,31 +41,30 @@ abbrev pub offset_of : Cert → (line : ℕ) → ℕ
 offset_of cert line = length (text_of (take line (certificate_of cert)))
 
 -- the line of an index is the first that breaks a rule or a limit: this
-abbrev pub IsFaultAt : List Listed → Cert → (listed : List spec.Listed) → (line : ℕ) → Refusal NamedFault → Type 0
-IsFaultAt codes cert listed line (Fault (fault.Broken function rule)) =
-    (name : List ℕ) × (name_in codes cert.lines.items function ≡ Some name)
-    × IsFault listed (certificate_of cert) (offset_of cert line) (spec.NotProof name rule)
-IsFaultAt codes cert listed line (Fault (fault.Above quantity)) = IsFault listed (certificate_of cert) (offset_of cert line) (spec.Limit quantity)
-IsFaultAt codes cert listed line NoMemory = Unit {0}
+abbrev pub IsFaultAt : List Listed → Cert → (listed : List spec.Listed) → (line : ℕ) → NamedFault → Type 0
+IsFaultAt codes cert listed line (fault.Broken function rule) =
+    (name : List ℕ) × (name_in codes cert.lines.items function ≡ Some name) × IsFault listed (certificate_of cert) (offset_of cert line) name rule
+IsFaultAt codes cert listed line (fault.Above quantity) = IsLimit listed (certificate_of cert) (offset_of cert line) quantity
 
-abbrev pub IsChecked : List Listed → Cert → Result (Unit {0}) (ℕ × Refusal NamedFault) → Type 0
+abbrev pub IsChecked : List Listed → Cert → Result (Unit {0}) (Refusal Placed) → Type 0
 IsChecked codes cert (Ok done) = (listed : List spec.Listed) → AreListed codes listed → IsProof listed (certificate_of cert)
-IsChecked codes cert (Err first) =
-    (first.0 < length cert.lines.items) × ((listed : List spec.Listed) → AreListed codes listed → IsFaultAt codes cert listed first.0 first.1)
+IsChecked codes cert (Err (Fault broken)) =
+    (broken.place < length cert.lines.items) × ((listed : List spec.Listed) → AreListed codes listed → IsFaultAt codes cert listed broken.place broken.fault)
+IsChecked codes cert (Err NoMemory) = Unit {0}
 
 -- a fault with the offset of its line; out of memory may come there too
-abbrev pub IsPlaced : Cert → (line : ℕ) → Refusal NamedFault → Refusal CheckFault → Type 0
-IsPlaced cert line f (Fault (NotProof function offset rule)) = (f ≡ Fault (fault.Broken function rule)) × (offset ≡ offset_of cert line)
-IsPlaced cert line f (Fault (Limit quantity)) = f ≡ Fault (fault.Above quantity)
-IsPlaced cert line f NoMemory = Unit {0}
+abbrev pub IsPlaced : Cert → Placed → Refusal CheckFault → Type 0
+IsPlaced cert broken (Fault (NotProof function offset rule)) = (broken.fault ≡ fault.Broken function rule) × (offset ≡ offset_of cert broken.place)
+IsPlaced cert broken (Fault (Limit quantity)) = broken.fault ≡ fault.Above quantity
+IsPlaced cert broken NoMemory = Unit {0}
 
 -- No line breaks a rule or a limit; or the first that does is at this offset, and this is what it breaks. Out of memory may
 -- come at any time
 abbrev pub IsVerdictOf : List Listed → Cert → (listed : List spec.Listed) → Result (Unit {0}) (Refusal CheckFault) → Type 0
 IsVerdictOf codes cert listed (Ok done) = IsProof listed (certificate_of cert)
 IsVerdictOf codes cert listed (Err (Fault (NotProof function offset rule))) =
-    (name : List ℕ) × (name_in codes cert.lines.items function ≡ Some name) × IsFault listed (certificate_of cert) offset (spec.NotProof name rule)
-IsVerdictOf codes cert listed (Err (Fault (Limit quantity))) = (offset : ℕ) × IsFault listed (certificate_of cert) offset (spec.Limit quantity)
+    (name : List ℕ) × (name_in codes cert.lines.items function ≡ Some name) × IsFault listed (certificate_of cert) offset name rule
+IsVerdictOf codes cert listed (Err (Fault (Limit quantity))) = (offset : ℕ) × IsLimit listed (certificate_of cert) offset quantity
 IsVerdictOf codes cert listed (Err NoMemory) = Unit {0}
 
 abbrev pub IsVerdict : List Listed → Cert → Result (Unit {0}) (Refusal CheckFault) → Type 0

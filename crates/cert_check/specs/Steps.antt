@@ -25,7 +25,11 @@ use Rattle.tv_limits.specs.declared.TheConstants.{MAX_VISITS}
 use Rattle.cert_check_spec.specs.declared.RuleWord.TheVariants as fault
 use Rattle.tv_limits.specs.declared.Quantity.TheVariants as quantity
 use Rattle.cert_check_spec.specs.Verdict as spec
-use Rattle.cert_check_spec.specs.Verdict.{Inside, Passes, Fails, NotProof, Limit, IsTest}
+use Rattle.cert_check_lines_spec.specs.Sites.{Part}
+use Rattle.cert_check_lines_spec.specs.Jobs as jobs
+use Rattle.cert_check_lines_spec.specs.LineRules as lines
+use Rattle.cert_check_lines_spec.specs.LineRules.{Passes, Fails, IsRead}
+use Rattle.cert_check_lines_spec.specs.Parts.{Functions, Member, part_of, unfolded}
 use Rattle.cert_check_frames.specs.declared.jobs.Job.{Job}
 use Rattle.cert_check_frames.specs.declared.listed.Listed.{Listed}
 use Rattle.cert_check_frames.specs.Listed.{IsListed, frame_at, terms_given}
@@ -49,19 +53,18 @@ IsKept f trees o jobs = IsKeptBy f trees (get same_variable o.binary.now) (get s
 
 -- ---- a line
 
--- the line breaks no rule, and leaves these jobs; or this is what it breaks
-abbrev pub Comes : (listed : List spec.Listed) → (ahead : List Line) → (parts : List spec.Listed) → (f : spec.Listed) → (before after : List spec.Job) → Line
-    → Result (Unit {0}) (Refusal PartFault) → Type 0
-Comes listed ahead parts f before after line (Ok done) = Passes listed ahead (Inside parts f before) line (Inside parts f after)
-Comes listed ahead parts f before after line (Err (Fault (Broken broken))) = Fails listed ahead (Inside parts f before) line 0 (NotProof f.name broken)
-Comes listed ahead parts f before after line (Err (Fault (Above q))) = Fails listed ahead (Inside parts f before) line 0 (Limit q)
-Comes listed ahead parts f before after line (Err NoMemory) = Unit {0}
+-- the line, which begins at the offset, breaks no rule, and leaves these jobs; or this is what it breaks
+abbrev pub Comes : Part → (at : ℕ) → (before after : List jobs.Job) → Line → Result (Unit {0}) (Refusal PartFault) → Type 0
+Comes p at before after line (Ok done) = Passes p at before line after
+Comes p at before after line (Err (Fault (Broken broken))) = Fails p at before line at (lines.Breaks broken)
+Comes p at before after line (Err (Fault (Above q))) = Fails p at before line at (lines.Above q)
+Comes p at before after line (Err NoMemory) = Unit {0}
 
--- whatever lines are after it
+-- wherever the line begins, and whatever parts are before
 abbrev pub IsStep : Listed → (old new : List Term) → (before after : List Job) → Line → Result (Unit {0}) (Refusal PartFault) → Type 0
 IsStep code old new before after line result =
-    (listed : List spec.Listed) (ahead : List Line) (parts : List spec.Listed) (f : spec.Listed) → IsListed code f
-    → Comes listed ahead parts f (jobs_of old (frame_at code) before) (jobs_of new (frame_at code) after) line result
+    (fs : Functions) (parts : List Member) (f : Member) (at : ℕ) → IsListed code f.listed
+    → Comes (part_of fs parts f (unfolded f)) at (jobs_of old (frame_at code) before) (jobs_of new (frame_at code) after) line result
 
 -- ---- its parts
 
@@ -92,8 +95,8 @@ goal_fault_of NoMemory = NoMemory
 
 -- the id of the test that the symbols spell, or there is none
 abbrev pub IsTestAt : spec.Listed → List Symbol → List Term → Result ℕ (Refusal PartFault) → Type 0
-IsTestAt f symbols trees (Ok id) = (id < length trees) × IsTest f.frame symbols (tree_at trees id)
-IsTestAt f symbols trees (Err (Fault (Broken fault.Sort))) = (test : Term) → IsTest f.frame symbols test → ⊥
+IsTestAt f symbols trees (Ok id) = (id < length trees) × IsRead f.frame f.frame.start.path symbols (tree_at trees id)
+IsTestAt f symbols trees (Err (Fault (Broken fault.Sort))) = (test : Term) → IsRead f.frame f.frame.start.path symbols test → ⊥
 IsTestAt f symbols trees (Err (Fault (Broken other))) = ⊥
 IsTestAt f symbols trees (Err (Fault (Above q))) = ⊥
 IsTestAt f symbols trees (Err NoMemory) = Unit {0}

@@ -1,29 +1,30 @@
 -- What a line does to a walk along the lines of a certificate.
-use Rattle.std.specs.Prelude.{◌≡◌, ◌⊎◌, ℕ, ◌+◌, ◌<◌, ◌≤◌, Bool, true, false, List, [], ◌∷◌, ◌++◌, length, replicate, Some, None, slice_get, Result, Ok, Err, OnOk, IfErr}
+use Rattle.std.specs.Prelude.{◌≡◌, ◌⊎◌, ℕ, ◌+◌, ◌<◌, Bool, true, false, List, [], ◌∷◌, ◌++◌, length, map, Some, None, slice_get, Result, Ok, Err, OnOk}
 use Rattle.std.specs.HashMap.{get}
 use Rattle.term_core_spec.specs.Same.{same_variable}
 use Rattle.cert_text_parse.specs.declared.lines.Line.{Line as CodeLine}
 use Rattle.cert_text_parse.specs.declared.lines.Line.TheVariants as code
-use Rattle.memory_spec.specs.Viewed.{runs_of}
-use Rattle.term_bank.specs.Nodes.{Extends, tree_at}
-use Rattle.clause_check_spec.specs.Log.{Step}
-use Rattle.discharge_spec.specs.Closing.{closing}
-use Rattle.discharge.specs.Answers.{Answers}
 use Rattle.attempt.specs.declared.refusal.Refusal.{Refusal}
 use Rattle.attempt.specs.declared.refusal.Refusal.TheVariants.{Fault, NoMemory}
-use Rattle.discharge.specs.declared.error.CloseFault.{CloseFault}
 use Rattle.cert_check.specs.declared.fault.NamedFault.{NamedFault}
 use Rattle.cert_check.specs.declared.fault.PartFault.{PartFault}
+use Rattle.cert_check.specs.declared.fault.Placed.{Placed}
 use Rattle.cert_check.specs.declared.fault.NamedFault.TheVariants.{Broken, Above}
 use Rattle.cert_check.specs.declared.fault.PartFault.TheVariants as part
-use Rattle.cert_text_spec.specs.Lines.{Line, Function, Log, End}
-use Rattle.cert_text_spec.specs.Certificates.{Expected, AHeader, TheParts, BinaryInlines, ALog, after, can_stand}
-use Rattle.cert_check_spec.specs.Verdict as spec
-use Rattle.cert_check_spec.specs.Verdict.{State, Between, Inside, AreSteps, Passes, Fails, NotProof, Limit}
+use Rattle.cert_text_spec.specs.Lines.{Line, Function, End, line_text}
+use Rattle.cert_text_spec.specs.Certificates.{Expected, AHeader, TheParts, BinaryInlines, after, can_stand}
+use Rattle.cert_check_lines_spec.specs.Sites.{Part}
+use Rattle.cert_check_lines_spec.specs.Jobs as spec
+use Rattle.cert_check_lines_spec.specs.Jobs.{AtEntry}
+use Rattle.cert_check_lines_spec.specs.LineRules as lines
+use Rattle.cert_check_lines_spec.specs.LineRules.{Passes, Fails}
+use Rattle.cert_check_lines_spec.specs.Parts.{Functions, Member, State, Between, Unfolding, Inside, unfolded, part_of}
+use Rattle.cert_check_lines_spec.specs.Walk.{Going, Stopped, Takes}
+use Rattle.cert_check_lines_spec.specs.Known.{is_known}
+use Rattle.cert_check_spec.specs.declared.RuleWord.{RuleWord}
 use Rattle.cert_check_spec.specs.declared.RuleWord.TheVariants as fault
 use Rattle.cert_check.specs.declared.fault.Named.{Named}
 use Rattle.cert_check.specs.declared.fault.Named.TheVariants as named
-use Rattle.cert_check_frames.specs.declared.jobs.Job.TheVariants.{Close}
 use Rattle.cert_check_frames.specs.declared.listed.Listed.{Listed}
 use Rattle.cert_check.specs.declared.walk.Walk.{Walk}
 use Rattle.cert_check_frames.specs.Listed.{AreListed, IsListed, frame_at}
@@ -34,25 +35,42 @@ use Rattle.cert_check_frames.specs.Parts.{AreIndices, IsNamed, IsMissingAt}
 
 -- ---- where a walk is
 
--- the listed functions of these indices
-pub data ArePicked (listed : List spec.Listed) : List ℕ → List spec.Listed → Type 0 where
-  no_pick : ArePicked listed [] []
-  one_pick : (k : ℕ) (f : spec.Listed) (others : List ℕ) (rest : List spec.Listed) → slice_get listed k ≡ Some f → ArePicked listed others rest
-      → ArePicked listed (k ∷ others) (f ∷ rest)
+-- the members of these indices
+pub data ArePicked (members : List Member) : List ℕ → List Member → Type 0 where
+  no_pick : ArePicked members [] []
+  one_pick : (k : ℕ) (f : Member) (others : List ℕ) (rest : List Member) → slice_get members k ≡ Some f → ArePicked members others rest
+      → ArePicked members (k ∷ others) (f ∷ rest)
+
+-- the members are of these listed functions, in their order
+abbrev pub AreMembers : List Listed → List Member → Type 0
+AreMembers codes members = AreListed codes (map (λ (f : Member). f.listed) members)
+
+-- the part of the listed function of the last index has begun, after the parts of the others
+pub record IsPart (codes : List Listed) (members : List Member) (walk : Walk) (function : Listed) (f : Member) (parts : List Member) : Type 0 where
+  pub before : List ℕ
+  pub index : ℕ
+  pub split : walk.parts.items ≡ before ++ index ∷ []
+  pub found : slice_get codes index ≡ Some function
+  pub member : slice_get members index ≡ Some f
+  pub picked : ArePicked members before parts
+
+-- what is expected in it
+abbrev pub walk_jobs : Walk → Listed → List spec.Job
+walk_jobs walk function = jobs_of walk.bank (frame_at function) walk.jobs.items
 
 -- the state of the definition, but after the last line
-pub data IsState (codes : List Listed) (listed : List spec.Listed) (walk : Walk) : State → Type 0 where
-  between : walk.parts.items ≡ [] → IsState codes listed walk (Between [])
-  inside : (before : List ℕ) (k : ℕ) (function : Listed) (f : spec.Listed) (parts : List spec.Listed) → walk.parts.items ≡ before ++ k ∷ []
-      → slice_get codes k ≡ Some function → slice_get listed k ≡ Some f → ArePicked listed before parts
-      → IsState codes listed walk (Inside parts f (jobs_of walk.bank (frame_at function) walk.jobs.items))
+pub data IsState (codes : List Listed) (members : List Member) (walk : Walk) : State → Type 0 where
+  between : walk.parts.items ≡ [] → IsState codes members walk (Between [])
+  unfolding_part : (function : Listed) (f : Member) (parts : List Member) → IsPart codes members walk function f parts
+      → walk_jobs walk function ≡ spec.Prove AtEntry f.listed.frame ∷ [] → IsState codes members walk (Unfolding parts f (unfolded f))
+  inside : (function : Listed) (f : Member) (parts : List Member) → IsPart codes members walk function f parts
+      → IsState codes members walk (Inside parts f (unfolded f) (walk_jobs walk function))
 
 -- what the grammar expects there
 pub data Expecting (walk : Walk) : List Expected → Type 0 where
   at_header : walk.parts.items ≡ [] → Expecting walk (AHeader ∷ [])
   at_first : walk.parts.items ≡ [] → Expecting walk (TheParts ∷ [])
   in_part : (expected : List Expected) → 0 < length walk.parts.items → AreOf expected walk.jobs.items → Expecting walk expected
-  at_end : Expecting walk []
 
 -- a part of the function is kept in its bank
 abbrev pub Keeps : Listed → Walk → Type 0
@@ -83,23 +101,32 @@ named_fault index (Fault (part.Broken rule)) = Fault (Broken (named.Listed index
 named_fault index (Fault (part.Above q)) = Fault (Above q)
 named_fault index NoMemory = NoMemory
 
+abbrev pub placed_fault : (place : ℕ) → Refusal NamedFault → Refusal Placed
+placed_fault place (Fault broken) = Fault (record { place = place; fault = broken })
+placed_fault place NoMemory = NoMemory
+
 -- ---- a line that is no log and no step
 
--- the line of an index breaks no rule and leaves the walk there, unless it is the last; or this is what it breaks
-abbrev pub StepsTo : List Listed → (listed : List spec.Listed) → (ahead : List Line) → (now : Walk) → State → Line → (index : ℕ) → Result (Unit {0}) (Refusal NamedFault) → Type 0
-StepsTo codes listed ahead now s line index (Ok done) = (next : State) × Passes listed ahead s line next × ((line ≡ End) ⊎ IsState codes listed now next)
-StepsTo codes listed ahead now s line index (Err (Fault (Broken function rule))) =
-    (name : List ℕ) × IsFaultName codes line index function name × Fails listed ahead s line 0 (NotProof name rule)
-StepsTo codes listed ahead now s line index (Err (Fault (Above q))) = Fails listed ahead s line 0 (Limit q)
-StepsTo codes listed ahead now s line index (Err NoMemory) = Unit {0}
+-- the line, which is of an index and begins at the offset, breaks no rule and leaves the walk there, unless it is the last;
+-- or this is what it breaks
+abbrev pub StepsTo : List Listed → Functions → (members : List Member) → (at : ℕ) → (now : Walk) → State → Line → (index : ℕ) → Result (Unit {0}) (Refusal NamedFault) → Type 0
+StepsTo codes fs members at now s line index (Ok done) =
+    (next : State) × Takes fs members is_known (Going at s) line (Going (at + length (line_text line)) next) × ((line ≡ End) ⊎ IsState codes members now next)
+StepsTo codes fs members at now s line index (Err (Fault (Broken function rule))) =
+    (name : List ℕ) × IsFaultName codes line index function name × Takes fs members is_known (Going at s) line (Stopped at name (lines.Breaks rule))
+StepsTo codes fs members at now s line index (Err (Fault (Above q))) = (name : List ℕ) × Takes fs members is_known (Going at s) line (Stopped at name (lines.Above q))
+StepsTo codes fs members at now s line index (Err NoMemory) = Unit {0}
 
+-- unless it was the last line, this is expected after it
 abbrev pub ExpectsAfter : (old now : Walk) → Line → Type 0
-ExpectsAfter old now line = (e : Expected) (others : List Expected) → Expecting old (e ∷ others) → can_stand e line ≡ true → Expecting now (after e line ++ others)
+ExpectsAfter old now line =
+    (e : Expected) (others : List Expected) → Expecting old (e ∷ others) → can_stand e line ≡ true → (line ≡ End) ⊎ Expecting now (after e line ++ others)
 
 pub record Goes (codes : List Listed) (old now : Walk) (line : Line) (index : ℕ) (result : Result (Unit {0}) (Refusal NamedFault)) : Type 0 where
   pub sound : OnOk result (IsSound codes now)
   pub follows : OnOk result (ExpectsAfter old now line)
-  pub step : (listed : List spec.Listed) (ahead : List Line) → AreListed codes listed → (s : State) → IsState codes listed old s → StepsTo codes listed ahead now s line index result
+  pub step : (fs : Functions) (members : List Member) (at : ℕ) → AreMembers codes members → (s : State) → IsState codes members old s
+      → StepsTo codes fs members at now s line index result
 
 -- ---- inside a part
 
@@ -127,60 +154,28 @@ pub record IsNextAt (codes : List Listed) (walk : Walk) (index : ℕ) (line : Li
   pub kept : (function : Listed) → slice_get codes index ≡ Some function → Keeps function walk
   pub next : IsNext walk.jobs.items line
 
+-- a line breaks the rule in a part; one of a rule that isn't checked yet breaks none else
+abbrev pub Breaks : Part → (at : ℕ) → List spec.Job → Line → RuleWord → Type 0
+Breaks p at before line word =
+    ((is_known line ≡ true) × Fails p at before line at (lines.Breaks word)) ⊎ ((is_known line ≡ false) × (word ≡ fault.Later))
+
 -- in the part of the function of an index
-abbrev pub ComesAt : (listed : List spec.Listed) → (ahead : List Line) → (parts : List spec.Listed) → (f : spec.Listed) → (before after : List spec.Job) → Line → (index : ℕ) → Result (Unit {0}) (Refusal NamedFault) → Type 0
-ComesAt listed ahead parts f before after line index (Ok done) = Passes listed ahead (Inside parts f before) line (Inside parts f after)
-ComesAt listed ahead parts f before after line index (Err (Fault (Broken (named.Listed k) rule))) = (k ≡ index) × Fails listed ahead (Inside parts f before) line 0 (NotProof f.name rule)
-ComesAt listed ahead parts f before after line index (Err (Fault (Broken (named.Line n) rule))) = ⊥
-ComesAt listed ahead parts f before after line index (Err (Fault (Above q))) = Fails listed ahead (Inside parts f before) line 0 (Limit q)
-ComesAt listed ahead parts f before after line index (Err NoMemory) = Unit {0}
+abbrev pub ComesAt : Part → (at : ℕ) → (before after : List spec.Job) → Line → (index : ℕ) → Result (Unit {0}) (Refusal NamedFault) → Type 0
+ComesAt p at before after line index (Ok done) = (is_known line ≡ true) × Passes p at before line after
+ComesAt p at before after line index (Err (Fault (Broken (named.Listed k) rule))) = (k ≡ index) × Breaks p at before line rule
+ComesAt p at before after line index (Err (Fault (Broken (named.Line n) rule))) = ⊥
+ComesAt p at before after line index (Err (Fault (Above q))) = (is_known line ≡ true) × Fails p at before line at (lines.Above q)
+ComesAt p at before after line index (Err NoMemory) = Unit {0}
 
 pub record IsInPart (function : Listed) (old now : Walk) (line : Line) (index : ℕ) (result : Result (Unit {0}) (Refusal NamedFault)) : Type 0 where
-  pub step : (listed : List spec.Listed) (ahead : List Line) (parts : List spec.Listed) (f : spec.Listed) → IsListed function f
-      → ComesAt listed ahead parts f (jobs_of old.bank (frame_at function) old.jobs.items) (jobs_of now.bank (frame_at function) now.jobs.items) line index result
+  pub step : (fs : Functions) (parts : List Member) (f : Member) (at : ℕ) → IsListed function f.listed
+      → ComesAt (part_of fs parts f (unfolded f)) at (walk_jobs old function) (walk_jobs now function) line index result
   pub kept : OnOk result (Keeps function now)
   pub follows : OnOk result (AreAfter old.jobs.items line now.jobs.items)
   pub parts : now.parts ≡ old.parts
 
 abbrev pub GoesInside : List Listed → (old now : Walk) → (index : ℕ) → Line → Result (Unit {0}) (Refusal NamedFault) → Type 0
 GoesInside codes old now index line result = (function : Listed) → slice_get codes index ≡ Some function → IsInPart function old now line index result
-
--- ---- logs
-
--- the state where so many steps of a log are expected first
-abbrev pub with_steps : ℕ → State → State
-with_steps count (Between parts) = Between parts
-with_steps count (Inside parts f jobs) = Inside parts f (replicate count spec.Checked ++ jobs)
-
--- what the steps that are left of a log come to for the first obligation of the part of a function
-pub record ClosesFirst (function : Listed) (old now : Walk) (steps : List Step) (result : Result (Unit {0}) (Refusal CloseFault)) : Type 0 where
-  pub parts : now.parts ≡ old.parts
-  pub kept : OnOk result (Keeps function now)
-  pub goal : ℕ
-  pub first : old.jobs.items ≡ now.jobs.items ++ Close goal ∷ []
-  pub extends : Extends old.bank now.bank
-  pub answers : Answers (closing (runs_of function.runs.now) (tree_at old.bank goal) steps) result
-
--- the log of so many steps at the line of an index breaks no rule, and leaves the walk there but for its steps; or this is
--- what it breaks, and at which line
-abbrev pub LogFails : List Listed → (listed : List spec.Listed) → (ahead : List Line) → State → (count index line : ℕ) → Refusal NamedFault → Type 0
-LogFails codes listed ahead s count index line (Fault (Broken (named.Listed k) rule)) =
-    (after : ℕ) × (line ≡ index + after) × (name : List ℕ) × IsNamed codes k name × Fails listed ahead s (Log count) after (NotProof name rule)
-LogFails codes listed ahead s count index line (Fault (Broken (named.Line n) rule)) = ⊥
-LogFails codes listed ahead s count index line (Fault (Above q)) = (line ≡ index) × Fails listed ahead s (Log count) 0 (Limit q)
-LogFails codes listed ahead s count index line NoMemory = Unit {0}
-
-abbrev pub LogComes : List Listed → (listed : List spec.Listed) → (ahead : List Line) → (now : Walk) → State → (count index : ℕ) → Result (Unit {0}) (ℕ × Refusal NamedFault) → Type 0
-LogComes codes listed ahead now s count index (Ok done) = (next : State) × Passes listed ahead s (Log count) (with_steps count next) × IsState codes listed now next
-LogComes codes listed ahead now s count index (Err first) = LogFails codes listed ahead s count index first.0 first.1
-
-pub record GoesLog (codes : List Listed) (old now : Walk) (count : ℕ) (steps : List Step) (index : ℕ) (result : Result (Unit {0}) (ℕ × Refusal NamedFault)) : Type 0 where
-  pub sound : OnOk result (IsSound codes now)
-  pub follows : OnOk result ((others : List Expected) → Expecting old (ALog ∷ others) → Expecting now others)
-  pub begun : OnOk result (0 < length now.parts.items)
-  pub within : IfErr result (λ first. first.0 ≤ index + count)
-  pub step : (listed : List spec.Listed) (ahead : List Line) → AreSteps ahead count steps → AreListed codes listed → (s : State) → IsState codes listed old s
-      → LogComes codes listed ahead now s count index result
 
 -- ---- parts
 
@@ -189,7 +184,7 @@ pub record IsOpened (function : Listed) (old now : Walk) : Type 0 where
   pub parts : now.parts ≡ old.parts
   pub kept : Keeps function now
   pub follows : AreOf (BinaryInlines ∷ TheParts ∷ []) now.jobs.items
-  pub jobs : jobs_of now.bank (frame_at function) now.jobs.items ≡ spec.Prove (frame_at function) ∷ []
+  pub jobs : walk_jobs now function ≡ spec.Prove AtEntry (frame_at function) ∷ []
 
 -- the part of the function of this index has begun, or its stack is another
 abbrev pub BeginsAt : Listed → (old now : Walk) → (index stack : ℕ) → Result (Unit {0}) (Refusal NamedFault) → Type 0

@@ -39,11 +39,20 @@ pub enum CheckFault {
 
 /// What is wrong at a line.
 #[derive(Clone, Copy)]
-pub(crate) enum NamedFault {
+pub enum NamedFault {
     /// It breaks a rule in the part of a function.
     Broken(Named, RuleWord),
     /// A quantity is above its maximum.
     Above(Quantity),
+}
+
+/// What is wrong, and where.
+#[derive(Clone, Copy)]
+pub struct Placed {
+    /// The place of the line that is at fault, as the caller counts.
+    pub place: usize,
+    /// What is wrong there.
+    pub fault: NamedFault,
 }
 
 /// What is wrong at a line of a part.

@@ -1,33 +1,24 @@
 //! The walk along the lines of a certificate.
 
-ghost use Rattle.std.specs.Prelude.{◌≡◌, ℕ, ◌+◌, ◌<◌, ◌^◌, [], OnOk, length};
+ghost use Rattle.std.specs.Prelude.{◌≡◌, ℕ, ◌<◌, OnOk, length, true};
 ghost use Rattle.cert_text_parse.specs.Views.{line_of};
-ghost use Rattle.cert_text.specs.Certificates.{certificate_of};
-ghost use Rattle.cert_text.specs.Laws.{AreLines};
 ghost use Rattle.cert_text_spec.specs.Lines as spec;
-ghost use Rattle.cert_check.specs.Outcomes.{IsChecked, IsPlaced, IsVerdict};
-ghost use Rattle.cert_check_frames.specs.Jobs.{IsGoalOnTop};
 ghost use Rattle.cert_check_frames.specs.Parts.{AreIndices};
-ghost use Rattle.cert_check.specs.Expectations as expectations;
+ghost use Rattle.cert_check_lines_spec.specs.Known as checked;
 ghost use Rattle.cert_check.specs.Expectations.{IsNext, AreAfter};
 ghost use Rattle.cert_check.specs.Steps.{IsKept, IsStep};
-ghost use Rattle.cert_check.specs.Logs.{steps_of};
-ghost use Rattle.cert_check.specs.Walks.{Begins, ClosesFirst, Ends, Goes, GoesInside, GoesLog};
-ghost use Rattle.cert_check.specs.Walks.{IsInside, IsOpened, IsPlain, IsSound, IsWalk, Keeps};
+ghost use Rattle.cert_check.specs.Walks.{Begins, Ends, Goes, GoesInside};
+ghost use Rattle.cert_check.specs.Walks.{IsInside, IsOpened, IsPlain, IsWalk};
 ghost use Rattle.cert_check.specs.Walks.{IsNextAt, named_fault};
 
-use crate::fault::{CheckFault, Named, NamedFault, PartFault};
-use crate::logs::{LogSteps, front, log_fault, rest};
+use crate::fault::{Named, NamedFault, PartFault};
 use crate::rules::{case, leaf};
 use attempt::{Refusal, attempt};
-use cert_check_frames::{Job, Listed, free, known, missing, push_proof, take_goal};
+use cert_check_frames::{Job, Listed, free, known, missing, push_proof};
 use cert_check_spec::RuleWord;
-use cert_text::{Cert, offset};
 use cert_text_parse::{Line, Part};
-use discharge::{CloseFault, close};
 use sim_rules_terms::{Known, Opening};
 use std::alloc::{AllocError, Global};
-use std::collections::HashMap;
 use term_bank::Bank;
 
 /// Where a walk is: the functions whose parts have begun, and the part of the last of them.
@@ -86,7 +77,7 @@ fn begin(
     part: &Part,
     line: usize,
 ) -> Result<(), Refusal<NamedFault>>
-    requires { IsSound listed.now walk.old }
+    requires { IsWalk listed.now walk.old (spec.Function part.now.name.items part.now.stack) }
     ensures { Goes listed.now walk.old walk.new (spec.Function part.now.name.items part.now.stack)
         line result }
 {
@@ -112,11 +103,11 @@ fn end(listed: &[Listed<'_>], parts: &[usize]) -> Result<(), Refusal<NamedFault>
 
 // ---- inside a part
 
-// Whether a line is of a rule that isn't checked yet, or inlines a call.
-fn is_unchecked(line: &Line) -> bool
-    ensures { result ≡ expectations.is_unchecked (line_of line.now) }
+// Whether a line is of a rule that is checked.
+fn is_known(line: &Line) -> bool
+    ensures { result ≡ checked.is_known (line_of line.now) }
 {
-    matches!(
+    !matches!(
         line,
         Line::InlineBinary(_)
             | Line::InlineSource(_)
@@ -140,14 +131,12 @@ fn part_line(
     requires next { IsNext jobs.old.items (line_of line.now) }
     requires inside { IsInside line.now }
     requires plain { IsPlain line.now }
+    requires known { checked.is_known (line_of line.now) ≡ true }
     ensures step { IsStep function.now bank.old bank.new jobs.old.items jobs.new.items
         (line_of line.now) result }
     ensures kept { OnOk result (IsKept function.now bank.new opening.entry jobs.new.items) }
     ensures follows { OnOk result (AreAfter jobs.old.items (line_of line.now) jobs.new.items) }
 {
-    if is_unchecked(line) {
-        return Err(Refusal::Fault(PartFault::Broken(RuleWord::Later)));
-    }
     match line {
         Line::Leaf(logs) => leaf(alloc, function, opening, bank, jobs, *logs),
         Line::Case(test) => case(alloc, function, opening, bank, jobs, test.as_slice()),
@@ -183,6 +172,9 @@ fn inside(
     requires plain { IsPlain line.now }
     ensures { GoesInside listed.now walk.old walk.new index (line_of line.now) result }
 {
+    if !is_known(line) {
+        return Err(Refusal::Fault(NamedFault::Broken(Named::Listed(index), RuleWord::Later)));
+    }
     let opening = Opening {
         binary: &walk.binary,
         source: &walk.source,
@@ -218,8 +210,8 @@ fn inside_last(
     inside(alloc, listed, walk, part, line)
 }
 
-// A line that is no log and no step of one, of an index.
-fn step(
+/// A line that is no log and no step of one, of an index.
+pub(crate) fn step(
     alloc: Global,
     listed: &[Listed<'_>],
     walk: &mut Walk,
@@ -235,125 +227,5 @@ fn step(
         Line::Function(part) => begin(alloc, listed, walk, part, index),
         Line::End => end(listed, walk.parts.as_slice()),
         _ => inside_last(alloc, listed, walk, line),
-    }
-}
-
-// Whether steps close the obligation that comes first in the part of a function.
-fn close_first(
-    alloc: Global,
-    function: &Listed<'_>,
-    walk: &mut Walk,
-    steps: &mut LogSteps<'_>,
-) -> Result<(), Refusal<CloseFault>>
-    requires kept { Keeps function.now walk.old }
-    requires next { IsGoalOnTop walk.old.jobs.items }
-    ensures { ClosesFirst function.now walk.old walk.new
-        (steps_of steps.old.lines.now steps.old.literals.now steps.old.hints.now) result }
-{
-    let goal = take_goal(&mut walk.jobs);
-    close(alloc, &mut walk.bank, goal, steps, function.runs)
-}
-
-// A log of these steps, at the line of an index. A fault comes with the index of its line.
-fn log(
-    alloc: Global,
-    listed: &[Listed<'_>],
-    walk: &mut Walk,
-    steps: &mut LogSteps<'_>,
-    index: usize,
-) -> Result<(), (usize, Refusal<NamedFault>)>
-    requires walk { IsWalk listed.now walk.old (spec.Log (length steps.old.lines.now)) }
-    requires room { index + length steps.old.lines.now < 2 ^ 64 }
-    ensures { GoesLog listed.now walk.old walk.new (length steps.old.lines.now)
-        (steps_of steps.old.lines.now steps.old.literals.now steps.old.hints.now) index result }
-{
-    let part = walk.parts[walk.parts.len() - 1];
-    match close_first(alloc, &listed[part], walk, steps) {
-        Ok(()) => Ok(()),
-        Err(error) => Err(log_fault(part, index, error)),
-    }
-}
-
-// The first line that breaks a rule or a limit, by its index, and what it breaks.
-fn first_fault(
-    alloc: Global,
-    listed: &[Listed<'_>],
-    cert: &Cert,
-    walk: &mut Walk,
-) -> Result<(), (usize, Refusal<NamedFault>)>
-    requires lines { AreLines (certificate_of cert.now) }
-    requires nothing { walk.old.parts.items ≡ [] }
-    ensures { IsChecked listed.now cert.now result }
-{
-    let mut literals = cert.logs.literals.as_slice();
-    let mut hints = cert.logs.hints.as_slice();
-    for index in 0..cert.lines.len() {
-        match &cert.lines[index] {
-            Line::Step(literal_count, hint_count) => {
-                literals = rest(literals, *literal_count);
-                hints = rest(hints, *hint_count);
-            }
-            Line::Log(count) => {
-                let lines = front(&cert.lines[index + 1..], *count as usize);
-                let mut steps = LogSteps {
-                    lines,
-                    literals,
-                    hints,
-                };
-                attempt!(log(alloc, listed, walk, &mut steps, index));
-            }
-            line => match step(alloc, listed, walk, line, index) {
-                Ok(()) => {}
-                Err(fault) => return Err((index, fault)),
-            },
-        }
-    }
-    Ok(())
-}
-
-// A fault at the line of an index, with the offset at which the line begins.
-fn placed(
-    alloc: Global,
-    cert: &Cert,
-    line: usize,
-    fault: Refusal<NamedFault>,
-) -> Refusal<CheckFault>
-    requires { line < length cert.now.lines.items }
-    ensures { IsPlaced cert.now line fault result }
-{
-    match fault {
-        Refusal::Fault(NamedFault::Broken(function, rule)) => match offset(alloc, cert, line) {
-            Ok(offset) => Refusal::Fault(CheckFault::NotProof {
-                function,
-                offset,
-                rule,
-            }),
-            Err(_) => Refusal::NoMemory,
-        },
-        Refusal::Fault(NamedFault::Above(quantity)) => Refusal::Fault(CheckFault::Limit {
-            quantity,
-        }),
-        Refusal::NoMemory => Refusal::NoMemory,
-    }
-}
-
-/// Whether a certificate, as it was read, is a proof of the listed functions, and else the first
-/// rule or limit that a line breaks. Each listed function needs a part, in any order; a part is
-/// checked in a bank of its own. Work is linear in the certificate beside what its obligations
-/// take, and in its parts times the listed functions.
-pub fn check(alloc: Global, listed: &[Listed<'_>], cert: &Cert) -> Result<(), Refusal<CheckFault>>
-    requires { AreLines (certificate_of cert.now) }
-    ensures { IsVerdict listed.now cert.now result }
-{
-    let mut walk = Walk {
-        parts: Vec::new(alloc),
-        jobs: Vec::new(alloc),
-        bank: Bank::new(alloc),
-        binary: HashMap::new(alloc),
-        source: HashMap::new(alloc),
-    };
-    match first_fault(alloc, listed, cert, &mut walk) {
-        Ok(()) => Ok(()),
-        Err((line, fault)) => Err(placed(alloc, cert, line, fault)),
     }
 }

@@ -16,7 +16,7 @@ use Rattle.validity_spec.specs.Claim.{IsValid}
 use Rattle.cert_text_spec.specs.Lines.{Line}
 use Rattle.agreement_laws.specs.EntryFrame.{Pair}
 use Rattle.validity_laws.specs.Derivation.{Function, AreSides}
-use Rattle.cert_check_spec.specs.Verdict.{IsProof}
+use Rattle.cert_check_lines_spec.specs.Known.{IsProof}
 use Rattle.validity_laws.specs.CheckStatements.{AreFunctions, AreLines, IsFile, listed_of}
 use Rattle.cert_run_spec.specs.Files.{AreListed}
 use Rattle.cert_check_frames.specs.Entries.{AreEntries, AreGraphs}

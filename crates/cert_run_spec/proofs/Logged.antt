@@ -1,5 +1,5 @@
 -- The certificate of functions that a Leaf proves with its logs is a proof of them.
-use Rattle.std.proofs.Common.{◌≡◌, ◌≢◌, ◌∙◌, ◌+◌, ◌<◌, ◌^◌, ℕ, suc, false, List, [], ◌∷◌, ◌++◌, length, map, refl, sym, ap, subst, arith, append_assoc, append-nil, length-append, bytes_eq}
+use Rattle.std.proofs.Common.{◌≡◌, ◌≢◌, ◌∙◌, ◌+◌, ◌<◌, ◌^◌, ℕ, suc, true, false, List, [], ◌∷◌, ◌++◌, length, map, refl, sym, ap, subst, arith, append_assoc, append-nil, length-append, bytes_eq}
 use Rattle.std.specs.Prelude.{All, Contains, replicate, flat_map}
 use Rattle.std.specs.List.{IsDistinct, AllByRecursion}
 use Rattle.std.proofs.lemmas.List.Elements.{All-nil, All-cons, All-head, All-tail, All-append}
@@ -13,11 +13,22 @@ use Rattle.cert_text_spec.specs.Derivation.{Derives}
 use Rattle.cert_text_spec.specs.Lines.{Line, Header, Function, Leaf, Log, LogStep, End, IsStep, line_text}
 use Rattle.cert_text_spec.specs.Certificates.{IsCertificate, Expected, AHeader, TheParts, BinaryInlines, ALog, AStep, Fits, after}
 use Rattle.cert_check_spec.specs.declared.RuleWord.TheVariants.{Missing}
-use Rattle.cert_check_spec.specs.Verdict as walk
-use Rattle.cert_check_spec.specs.Verdict.{Listed, Job, Prove, Close, Checked, State, Between, Inside, begun, IsMissing, Passes, Proves, Refutes, IsProof, IsFault}
+use Rattle.cert_check_spec.specs.Verdict.{Listed, IsMissing}
+use Rattle.cert_check_lines_spec.specs.Sites.{Part as PartOf}
+use Rattle.cert_check_lines_spec.specs.Jobs.{AtEntry, Job, Prove, Close}
+use Rattle.cert_check_lines_spec.specs.LineRules as rules
+use Rattle.cert_check_lines_spec.specs.LineRules.{Breaks, Passes}
+use Rattle.cert_check_lines_spec.specs.Shown.{Pass, none, some}
+use Rattle.cert_check_lines_spec.specs.Parts as walk
+use Rattle.cert_check_lines_spec.specs.Parts.{Functions, Member, unfolded, part_of, State, Between, Unfolding, Inside, HasParts, at_start, at_close, LacksPart, Accepts}
+use Rattle.cert_check_lines_spec.specs.Walk as walks
+use Rattle.cert_check_lines_spec.specs.Walk.{Progress, Going, Stopped, before_all, TakesAll}
+use Rattle.cert_check_lines_spec.specs.Known.{is_known, AreMembersOf, IsProof, IsFault}
+use Rattle.cert_check_lines_laws.proofs.Stepping.{closing_passes}
 use Rattle.prove_run_spec.specs.Proofs.{HasProof, AreClosedBy}
 use Rattle.cert_run_spec.specs.Verdict.{IsOutcome, Broken, broken, proof, Part, log_lines, proof_lines, proofs_lines, written_lines, end_offset}
 use Rattle.cert_run_spec.specs.Laws.{CanWrite, LoggedIsProof, LoggedMissesOthers}
+use Rattle.cert_run_spec.proofs.Apart.{mapped_from}
 
 unfoldable pub Distinct : List Listed → Type 0
 Distinct [] = Unit {0}
@@ -42,61 +53,87 @@ same_length runs [] (log ∷ logs) closed = absurd closed
 same_length runs (t ∷ terms) [] closed = absurd closed
 same_length runs (t ∷ terms) (log ∷ logs) closed = ap suc (same_length runs terms logs closed.1)
 
--- ---- lines that break no rule
-
--- before others, these lines lead from a state to another
-data Leads (listed : List Listed) (more : List Line) : State → List Line → State → Type 0 where
-  stays : (s : State) → Leads listed more s [] s
-  goes : (s between end : State) (line : Line) (lines : List Line) → Passes listed (lines ++ more) s line between → Leads listed more between lines end
-      → Leads listed more s (line ∷ lines) end
-
 size_of : (line : Line) (lines : List Line) → length (flat_map line_text (line ∷ lines)) ≡ length (line_text line) + length (flat_map line_text lines)
 size_of line lines = length-append (line_text line) (flat_map line_text lines)
 
-module _ (listed : List Listed) where
-  leads_both : (others more : List Line) (s between end : State) (lines : List Line) → Leads listed (others ++ more) s lines between → Leads listed more between others end
-      → Leads listed more s (lines ++ others) end
-  leads_both others more s between end lines (stays _) rest = rest
-  leads_both others more s between end lines (goes _ first _ line left passes leads) rest =
-      goes s first end line (left ++ others) (subst (λ (l : List Line). Passes listed l s line first) (sym (append_assoc left others more)) passes)
-      (leads_both others more first between end left leads rest)
+-- after these lines
+abbrev past : (at : ℕ) → List Line → ℕ
+past at lines = at + length (flat_map line_text lines)
 
-  leads_proves : (more : List Line) (s end : State) (lines : List Line) → Leads listed more s lines end → Proves listed end more → Proves listed s (lines ++ more)
-  leads_proves more s end lines (stays _) rest = rest
-  leads_proves more s end lines (goes _ first _ line left passes leads) rest = walk.some s first line (left ++ more) passes (leads_proves more first end left leads rest)
+past_more : (at : ℕ) (line : Line) (lines : List Line) → past (at + length (line_text line)) lines ≡ past at (line ∷ lines)
+past_more at line lines = let size = size_of line lines in omega (arith, size)
 
-  leads_refutes : (more : List Line) (offset : ℕ) (f : walk.Fault) (s end : State) (at : ℕ) (lines : List Line) → Leads listed more s lines end
-      → Refutes listed end (at + length (flat_map line_text lines)) more offset f → Refutes listed s at (lines ++ more) offset f
-  leads_refutes more offset f s end at lines (stays _) rest =
+past_both : (at : ℕ) (lines more : List Line) → past (past at lines) more ≡ past at (lines ++ more)
+past_both at [] more = omega arith
+past_both at (line ∷ lines) more =
+    let size = size_of line lines in
+    let whole = size_of line (lines ++ more) in
+    let rest = past_both (at + length (line_text line)) lines more in
+    omega (arith, size, whole, rest)
+
+pass_both : (p : PartOf) (at : ℕ) (jobs middle last : List Job) (lines more : List Line) → Pass p at jobs lines middle → Pass p (past at lines) middle more last → Pass p at jobs (lines ++ more) last
+pass_both p at jobs _ last _ more (none _ _) rest =
+    let same : at + 0 ≡ at = omega arith in
+    subst (λ (n : ℕ). Pass p n jobs more last) same rest
+pass_both p at jobs middle last _ more (some _ _ next _ line lines passes left) rest =
+    some at jobs next last line (lines ++ more) passes
+    (pass_both p (at + length (line_text line)) next middle last lines more left (subst (λ (n : ℕ). Pass p n middle more last) (sym (past_more at line lines)) rest))
+
+-- logs that close the obligations pass one after the other
+logs_pass : (p : PartOf) (at : ℕ) (terms : List Term) (logs : List (List clauses.Step)) → AreClosedBy p.runs terms logs → Pass p at (map Close terms ++ []) (flat_map log_lines logs) []
+unfolding AreClosedBy
+logs_pass p at [] [] closed = none at []
+logs_pass p at [] (log ∷ logs) closed = absurd closed
+logs_pass p at (t ∷ terms) [] closed = absurd closed
+logs_pass p at (t ∷ terms) (log ∷ logs) closed =
+    pass_both p at (Close t ∷ (map Close terms ++ [])) (map Close terms ++ []) [] (log_lines log) (flat_map log_lines logs) (closing_passes p at t (map Close terms ++ []) log closed.0)
+    (logs_pass p (past at (log_lines log)) terms logs closed.1)
+
+-- ---- lines that are taken
+
+abbrev IsKnownLine : Line → Type 0
+IsKnownLine line = is_known line ≡ true
+
+steps_known : (log : List clauses.Step) → All IsKnownLine (map LogStep log)
+steps_known [] = All-nil IsKnownLine
+steps_known (x ∷ log) = All-cons IsKnownLine (LogStep x) (map LogStep log) refl (steps_known log)
+
+logs_known : (logs : List (List clauses.Step)) → All IsKnownLine (flat_map log_lines logs)
+logs_known [] = All-nil IsKnownLine
+logs_known (log ∷ logs) =
+    All-append IsKnownLine (log_lines log) (flat_map log_lines logs) (All-cons IsKnownLine (Log (length log)) (map LogStep log) refl (steps_known log)) (logs_known logs)
+
+module _ (fs : Functions) (members : List Member) where
+  abbrev Leads : (at : ℕ) → State → List Line → State → Type 0
+  Leads at s lines end = TakesAll fs members is_known (Going at s) lines (Going (past at lines) end)
+
+  leads_none : (at : ℕ) (s : State) → Leads at s [] s
+  leads_none at s =
       let same : at + 0 ≡ at = omega arith in
-      subst (λ (n : ℕ). Refutes listed s n more offset f) same rest
-  leads_refutes more offset f s end at lines (goes _ first _ line left passes leads) rest =
-      let size = size_of line left in
-      let same : at + length (flat_map line_text (line ∷ left)) ≡ (at + length (line_text line)) + length (flat_map line_text left) = omega (arith, size) in
-      walk.there s first at line (left ++ more) offset f passes
-      (leads_refutes more offset f first end (at + length (line_text line)) left leads (subst (λ (n : ℕ). Refutes listed end n more offset f) same rest))
+      subst (λ (n : ℕ). TakesAll fs members is_known (Going at s) [] (Going n s)) (sym same) (walks.no_line (Going at s))
 
-module _ (listed parts : List Listed) (f : Listed) where
-  steps_lead : (log : List clauses.Step) (jobs : List Job) (more : List Line)
-      → Leads listed more (Inside parts f (replicate (length log) Checked ++ jobs)) (map LogStep log) (Inside parts f jobs)
-  steps_lead [] jobs more = stays (Inside parts f jobs)
-  steps_lead (x ∷ log) jobs more =
-      goes (Inside parts f (Checked ∷ (replicate (length log) Checked ++ jobs))) (Inside parts f (replicate (length log) Checked ++ jobs)) (Inside parts f jobs) (LogStep x)
-      (map LogStep log) (walk.step parts f (replicate (length log) Checked ++ jobs) x) (steps_lead log jobs more)
+  leads_one : (at : ℕ) (s between end : State) (line : Line) (lines : List Line) → is_known line ≡ true → Accepts fs members at s line between
+      → Leads (at + length (line_text line)) between lines end → Leads at s (line ∷ lines) end
+  leads_one at s between end line lines known accepts rest =
+      walks.one_line (Going at s) (Going (at + length (line_text line)) between) (Going (past at (line ∷ lines)) end) line lines (walks.goes_on at s between line known accepts)
+      (subst (λ (n : ℕ). TakesAll fs members is_known (Going (at + length (line_text line)) between) lines (Going n end)) (past_more at line lines) rest)
 
-  logs_lead : (terms : List Term) (logs : List (List clauses.Step)) (more : List Line) → AreClosedBy f.runs terms logs
-      → Leads listed more (Inside parts f (map Close terms ++ [])) (flat_map log_lines logs) (Inside parts f [])
-  unfolding AreClosedBy
-  logs_lead [] [] more closed = stays (Inside parts f [])
-  logs_lead [] (log ∷ logs) more closed = absurd closed
-  logs_lead (t ∷ terms) [] more closed = absurd closed
-  logs_lead (t ∷ terms) (log ∷ logs) more closed =
-      let rest = flat_map log_lines logs in
-      let jobs = map Close terms ++ [] in
-      goes (Inside parts f (Close t ∷ jobs)) (Inside parts f (replicate (length log) Checked ++ jobs)) (Inside parts f []) (Log (length log)) (map LogStep log ++ rest)
-      (walk.log parts f t jobs (length log) log (record { counted = refl; rest = rest ++ more; cut = append_assoc (map LogStep log) rest more }) closed.0)
-      (leads_both listed rest more (Inside parts f (replicate (length log) Checked ++ jobs)) (Inside parts f jobs) (Inside parts f []) (map LogStep log)
-      (steps_lead log jobs (rest ++ more)) (logs_lead terms logs more closed.1))
+  taken_both : (p q r : Progress) (lines more : List Line) → TakesAll fs members is_known p lines q → TakesAll fs members is_known q more r → TakesAll fs members is_known p (lines ++ more) r
+  taken_both p q r _ more (walks.no_line _) rest = rest
+  taken_both p q r _ more (walks.one_line _ middle _ one lines first takes) rest = walks.one_line p middle r one (lines ++ more) first (taken_both middle q r lines more takes rest)
+
+  leads_both : (at : ℕ) (s between end : State) (lines more : List Line) → Leads at s lines between → Leads (past at lines) between more end → Leads at s (lines ++ more) end
+  leads_both at s between end lines more x y =
+      subst (λ (n : ℕ). TakesAll fs members is_known (Going at s) (lines ++ more) (Going n end)) (past_both at lines more)
+      (taken_both (Going at s) (Going (past at lines) between) (Going (past (past at lines) more) end) lines more x y)
+
+  pass_leads : (parts : List Member) (f : Member) (at : ℕ) (jobs last : List Job) (lines : List Line) → All IsKnownLine lines
+      → Pass (part_of fs parts f (unfolded f)) at jobs lines last → Leads at (Inside parts f (unfolded f) jobs) lines (Inside parts f (unfolded f) last)
+  pass_leads parts f at jobs _ _ known (none _ _) = leads_none at (Inside parts f (unfolded f) jobs)
+  pass_leads parts f at jobs last _ known (some _ _ next _ line lines passes rest) =
+      leads_one at (Inside parts f (unfolded f) jobs) (Inside parts f (unfolded f) next) (Inside parts f (unfolded f) last) line lines (All-head IsKnownLine line lines known)
+      (walk.next parts f (unfolded f) jobs next line passes)
+      (pass_leads parts f (at + length (line_text line)) next last lines (All-tail IsKnownLine line lines known) rest)
 
 -- ---- the walk
 
@@ -110,6 +147,18 @@ proofs_are [] = refl
 proofs_are (p ∷ left) =
     ap (λ (l : List Line). proof_lines p ++ l) (proofs_are left) ∙ sym (append_assoc (proof_lines p) (flat_map proof_lines left) (End ∷ []))
 
+abbrev listed_in : Member → Listed
+listed_in m = m.listed
+
+-- the member of a listed function
+record IsMember (members : List Member) (f : Listed) : Type 0 where
+  member : Member
+  among : Contains members member
+  is : member.listed ≡ f
+
+member_in : (members : List Member) (f : Listed) → Contains (map listed_in members) f → IsMember members f
+member_in members f there = let (m, among, is) = mapped_from listed_in members f there in record { member = m; among = among; is = is }
+
 module _ (listed : List Listed) where
   abbrev IsAmong : Part → Type 0
   IsAmong p = Contains listed p.function
@@ -120,89 +169,147 @@ module _ (listed : List Listed) where
       All-cons IsAmong p left (subst (λ (l : List Listed). Contains l p.function) whole (middle done (map function_of left) p.function))
       (all_among (done ++ p.function ∷ []) left (append_assoc done (p.function ∷ []) (map function_of left) ∙ whole))
 
-  none_missing : (s : State) (f : Listed) → begun s ≡ listed → IsMissing listed (begun s) f → ⊥
-  none_missing s f all is =
+  none_missing : (parts : List Listed) (f : Listed) → parts ≡ listed → IsMissing listed parts f → ⊥
+  none_missing parts f all is =
       missing (subst (λ (l : List Listed). Contains l f) (sym (all ∙ is.cut)) (middle is.before is.after f))
     where
-      missing : Contains (begun s) f → ⊥
+      missing : Contains parts f → ⊥
       missing (k, below, same) = is.none k f below (ap (λ (g : Listed). g.name) same)
 
-  part_leads : (s : State) (p : Part) (more : List Line) → Contains listed p.function → All (λ (other : Listed). other.name ≢ p.function.name) (begun s) → IsProved p
-      → Leads listed more s (proof_lines p) (Inside (begun s) p.function [])
-  part_leads s p more among free is =
-      let f = p.function in
-      let rest = flat_map log_lines p.logs in
-      let opened = Inside (begun s) f (Prove f.frame ∷ []) in
-      let closing_next = Inside (begun s) f (map Close is.terms ++ []) in
-      let passes : Passes listed (rest ++ more) opened (Leaf (length p.logs)) closing_next =
-      subst (λ (n : ℕ). Passes listed (rest ++ more) opened (Leaf n) closing_next) (same_length f.runs is.terms p.logs is.closed)
-      (walk.leaf (begun s) f f.frame [] is.terms is.acyclic is.small is.are) in
-      goes s opened (Inside (begun s) f []) (Function f.name f.stack) (Leaf (length p.logs) ∷ rest)
-      (walk.function s f (record { is_listed = among; named = refl; free = free }))
-      (goes opened closing_next (Inside (begun s) f []) (Leaf (length p.logs)) rest passes (logs_lead listed (begun s) f is.terms p.logs more is.closed))
+  module _ (fs : Functions) (members : List Member) (are : AreMembersOf listed members) where
+    -- a part of a function that has none yet
+    record Led (at : ℕ) (s : State) (p : Part) (parts : List Member) : Type 0 where
+      member : Member
+      is : member.listed ≡ p.function
+      leads : Leads fs members at s (proof_lines p) (Inside parts member (unfolded member) [])
 
-  -- after these parts
-  record Walked (done : List Listed) (left : List Part) (s : State) (more : List Line) : Type 0 where
-    state : State
-    begun_is : begun state ≡ done ++ map function_of left
-    leads : Leads listed more s (flat_map proof_lines left) state
+    free_names : (parts : List Member) (name : List ℕ) → All (λ (other : Listed). other.name ≢ name) (map listed_in parts) → All (λ (other : Member). other.listed.name ≢ name) parts
+    free_names [] name free = All-nil (λ (other : Member). other.listed.name ≢ name)
+    free_names (m ∷ parts) name free =
+        All-cons (λ (other : Member). other.listed.name ≢ name) m parts (All-head (λ (other : Listed). other.name ≢ name) m.listed (map listed_in parts) free)
+        (free_names parts name (All-tail (λ (other : Listed). other.name ≢ name) m.listed (map listed_in parts) free))
 
-  parts_lead : (done : List Listed) (left : List Part) (s : State) (more : List Line) → begun s ≡ done → All IsAmong left → All IsProved left → Distinct (map function_of left)
-      → ((f : Listed) → Contains (map function_of left) f → All (λ (other : Listed). other.name ≢ f.name) done) → Walked done left s more
-  unfolding Distinct
-  parts_lead done [] s more at among each apart free = record { state = s; begun_is = at ∙ sym (append-nil done); leads = stays s }
-  parts_lead done (p ∷ left) s more at among each apart free =
-      let f = p.function in
-      let inside = Inside (begun s) f [] in
-      let rest =
-      parts_lead (done ++ f ∷ []) left inside more (ap (λ (l : List Listed). l ++ f ∷ []) at) (All-tail IsAmong p left among) (All-tail IsProved p left each) apart.1 later
-      in
-      record {
-        state = rest.state;
-        begun_is = rest.begun_is ∙ append_assoc done (f ∷ []) (map function_of left);
-        leads =
-            leads_both listed (flat_map proof_lines left) more s inside rest.state (proof_lines p)
-            (part_leads s p (flat_map proof_lines left ++ more) (All-head IsAmong p left among)
-            (subst (All (λ (other : Listed). other.name ≢ f.name)) (sym at) (free f (0, omega arith, refl))) (All-head IsProved p left each))
-            rest.leads;
-      }
-    where
-      later : (g : Listed) → Contains (map function_of left) g → All (λ (other : Listed). other.name ≢ g.name) (done ++ p.function ∷ [])
-      later g (k, below, is) =
-          All-append (λ (other : Listed). other.name ≢ g.name) done (p.function ∷ []) (free g (suc k, omega (arith, below), is))
-          (All-cons (λ (other : Listed). other.name ≢ g.name) p.function [] (λ same. apart.0 k g below (same ∙ ap (λ (h : Listed). h.name) (sym is)))
-          (All-nil (λ (other : Listed). other.name ≢ g.name)))
+    part_leads : (at : ℕ) (s : State) (p : Part) (parts : List Member) → HasParts s parts → Contains listed p.function
+        → All (λ (other : Listed). other.name ≢ p.function.name) (map listed_in parts) → IsProved p → Led at s p parts
+    part_leads at s p parts has among free is =
+        let m = member_in members p.function (subst (λ (l : List Listed). Contains l p.function) (sym are) among) in
+        record { member = m.member; is = m.is; leads = by m.member m.among m.is }
+      where
+        by : (f : Member) → Contains members f → f.listed ≡ p.function → Leads fs members at s (proof_lines p) (Inside parts f (unfolded f) [])
+        by f there same =
+            let proof_of : HasProof f.listed p.logs = subst (λ (g : Listed). HasProof g p.logs) (sym same) is in
+            let logs = flat_map log_lines p.logs in
+            let opened = Unfolding parts f (unfolded f) in
+            let jobs = map Close proof_of.terms ++ [] in
+            let first = at + length (line_text (Function p.function.name p.function.stack)) in
+            let second = first + length (line_text (Leaf (length p.logs))) in
+            let part = part_of fs parts f (unfolded f) in
+            let free_here : All (λ (other : Member). other.listed.name ≢ f.listed.name) parts =
+            subst (λ (name : List ℕ). All (λ (other : Member). other.listed.name ≢ name) parts) (sym (ap (λ (g : Listed). g.name) same)) (free_names parts p.function.name free) in
+            let begins : Accepts fs members at s (Function p.function.name p.function.stack) opened =
+            subst (λ (g : Listed). Accepts fs members at s (Function g.name g.stack) opened) same
+            (walk.function s parts f has (record { is_listed = there; named = refl; free = free_here })) in
+            let passes : Passes part first (Prove AtEntry f.listed.frame ∷ []) (Leaf (length p.logs)) jobs =
+            subst (λ (n : ℕ). Passes part first (Prove AtEntry f.listed.frame ∷ []) (Leaf n) jobs) (same_length f.listed.runs proof_of.terms p.logs proof_of.closed)
+            (rules.leaf AtEntry f.listed.frame [] proof_of.terms (record { acyclic = proof_of.acyclic; small = proof_of.small; obligations = proof_of.are })) in
+            leads_one fs members at s opened (Inside parts f (unfolded f) []) (Function p.function.name p.function.stack) (Leaf (length p.logs) ∷ logs) refl begins
+            (leads_one fs members first opened (Inside parts f (unfolded f) jobs) (Inside parts f (unfolded f) []) (Leaf (length p.logs)) logs refl
+            (walk.first parts f (unfolded f) (Leaf (length p.logs)) jobs passes)
+            (pass_leads fs members parts f second jobs [] logs (logs_known p.logs) (logs_pass part second proof_of.terms p.logs proof_of.closed)))
 
-  -- from the first line on
-  all_lead : (left : List Part) → All IsAmong left → All IsProved left → Distinct (map function_of left) → Walked [] left (Between []) (End ∷ [])
-  all_lead left among each apart =
-      parts_lead [] left (Between []) (End ∷ []) refl among each apart (λ f inside. All-nil (λ (other : Listed). other.name ≢ f.name))
+    -- after these parts
+    record Walked (done : List Listed) (left : List Part) (at : ℕ) (s : State) : Type 0 where
+      state : State
+      parts : List Member
+      has : HasParts state parts
+      parts_are : map listed_in parts ≡ done ++ map function_of left
+      leads : Leads fs members at s (flat_map proof_lines left) state
+
+    pushed : (parts : List Member) (m : Member) → map listed_in (parts ++ m ∷ []) ≡ map listed_in parts ++ m.listed ∷ []
+    pushed [] m = refl
+    pushed (x ∷ parts) m = ap (λ (l : List Listed). x.listed ∷ l) (pushed parts m)
+
+    parts_lead : (done : List Listed) (left : List Part) (at : ℕ) (s : State) (parts : List Member) → HasParts s parts → map listed_in parts ≡ done → All IsAmong left → All IsProved left
+        → Distinct (map function_of left) → ((f : Listed) → Contains (map function_of left) f → All (λ (other : Listed). other.name ≢ f.name) done) → Walked done left at s
+    unfolding Distinct
+    parts_lead done [] at s parts has are_done among each apart free =
+        record { state = s; parts = parts; has = has; parts_are = are_done ∙ sym (append-nil done); leads = leads_none fs members at s }
+    parts_lead done (p ∷ left) at s parts has are_done among each apart free =
+        let f = p.function in
+        let led = part_leads at s p parts has (All-head IsAmong p left among)
+        (subst (All (λ (other : Listed). other.name ≢ f.name)) (sym are_done) (free f (0, omega arith, refl))) (All-head IsProved p left each) in
+        let inside = Inside parts led.member (unfolded led.member) [] in
+        let more : map listed_in (parts ++ led.member ∷ []) ≡ done ++ f ∷ [] =
+        pushed parts led.member ∙ (ap (λ (l : List Listed). l ++ led.member.listed ∷ []) are_done ∙ ap (λ (g : Listed). done ++ g ∷ []) led.is) in
+        let rest = parts_lead (done ++ f ∷ []) left (past at (proof_lines p)) inside (parts ++ led.member ∷ []) (at_close parts led.member (unfolded led.member)) more
+        (All-tail IsAmong p left among) (All-tail IsProved p left each) apart.1 later in
+        record {
+          state = rest.state;
+          parts = rest.parts;
+          has = rest.has;
+          parts_are = rest.parts_are ∙ append_assoc done (f ∷ []) (map function_of left);
+          leads = leads_both fs members at s inside rest.state (proof_lines p) (flat_map proof_lines left) led.leads rest.leads;
+        }
+      where
+        later : (g : Listed) → Contains (map function_of left) g → All (λ (other : Listed). other.name ≢ g.name) (done ++ p.function ∷ [])
+        later g (k, below, is) =
+            All-append (λ (other : Listed). other.name ≢ g.name) done (p.function ∷ []) (free g (suc k, omega (arith, below), is))
+            (All-cons (λ (other : Listed). other.name ≢ g.name) p.function [] (λ same. apart.0 k g below (same ∙ ap (λ (h : Listed). h.name) (sym is)))
+            (All-nil (λ (other : Listed). other.name ≢ g.name)))
+
+    abbrev start : ℕ
+    start = 0 + length (line_text Header)
+
+    -- from the first line on
+    all_lead : (left : List Part) → All IsAmong left → All IsProved left → Distinct (map function_of left) → Walked [] left start (Between [])
+    all_lead left among each apart =
+        parts_lead [] left start (Between []) [] (at_start []) refl among each apart (λ f inside. All-nil (λ (other : Listed). other.name ≢ f.name))
+
+    header_first : (left : List Part) (q : Progress) → TakesAll fs members is_known (Going start (Between [])) (flat_map proof_lines left ++ End ∷ []) q
+        → TakesAll fs members is_known before_all (written_lines left) q
+    header_first left q rest =
+        walks.one_line before_all (Going start (Between [])) q Header (proofs_lines left) (walks.goes_on 0 (Between []) (Between []) Header refl walk.header)
+        (subst (λ (l : List Line). TakesAll fs members is_known (Going start (Between [])) l q) (sym (proofs_are left)) rest)
+
+    proves_there : (left : List Part) → map function_of left ≡ listed → All IsProved left → Distinct (map function_of left) → walks.IsProof fs members is_known (written_lines left)
+    proves_there left whole each apart =
+        let walked = all_lead left (all_among [] left whole) each apart in
+        let lines = flat_map proof_lines left in
+        let end = past start lines + length (line_text End) in
+        let no_lack : (f : Listed) → LacksPart members walked.parts f → ⊥ = λ f is.
+        none_missing (map listed_in walked.parts) f (walked.parts_are ∙ whole) (subst (λ (l : List Listed). IsMissing l (map listed_in walked.parts) f) are is) in (
+          end,
+          walked.parts,
+          header_first left (Going end (Between walked.parts))
+              (taken_both fs members (Going start (Between [])) (Going (past start lines) walked.state) (Going end (Between walked.parts)) lines (End ∷ []) walked.leads
+              (walks.one_line (Going (past start lines) walked.state) (Going end (Between walked.parts)) (Going end (Between walked.parts)) End []
+              (walks.goes_on (past start lines) walked.state (Between walked.parts) End refl (walk.last walked.state walked.parts walked.has no_lack))
+              (walks.no_line (Going end (Between walked.parts))))),
+        )
+
+    misses_there : (left : List Part) (f : Listed) → All IsAmong left → All IsProved left → Distinct (map function_of left) → IsMissing listed (map function_of left) f
+        → walks.IsFault fs members is_known (written_lines left) (end_offset left) f.name (Breaks Missing)
+    misses_there left f among each apart missing =
+        let walked = all_lead left among each apart in
+        let lines = flat_map proof_lines left in
+        let at = past start lines in
+        let size = size_of Header lines in
+        let same : at ≡ end_offset left = omega (arith, size) in
+        let stop = Stopped (end_offset left) f.name (Breaks Missing) in
+        let lacks : LacksPart members walked.parts f =
+        subst (λ (l : List Listed). IsMissing l (map listed_in walked.parts) f) (sym are) (subst (λ (l : List Listed). IsMissing listed l f) (sym walked.parts_are) missing) in
+        header_first left stop
+        (taken_both fs members (Going start (Between [])) (Going at walked.state) stop lines (End ∷ []) walked.leads
+        (subst (λ (n : ℕ). TakesAll fs members is_known (Going at walked.state) (End ∷ []) (Stopped n f.name (Breaks Missing))) same
+        (walks.one_line (Going at walked.state) (Stopped at f.name (Breaks Missing)) (Stopped at f.name (Breaks Missing)) End []
+        (walks.stops at walked.state End at f.name (Breaks Missing) refl (walk.lacking walked.state walked.parts f walked.has lacks)) (walks.no_line (Stopped at f.name (Breaks Missing))))))
 
   pub proves_parts : (left : List Part) → map function_of left ≡ listed → All IsProved left → Distinct (map function_of left) → IsProof listed (written_lines left)
-  proves_parts left whole each apart =
-      let walked = all_lead left (all_among [] left whole) each apart in
-      let last = Between (begun walked.state) in
-      walk.some (Between []) (Between []) Header (proofs_lines left) walk.header
-      (subst (Proves listed (Between [])) (sym (proofs_are left))
-      (leads_proves listed (End ∷ []) (Between []) walked.state (flat_map proof_lines left) walked.leads
-      (walk.some walked.state last End [] (walk.last walked.state (λ f is. none_missing walked.state f (walked.begun_is ∙ whole) is)) (walk.none last))))
+  proves_parts left whole each apart = λ fs members are. proves_there fs members are left whole each apart
 
   pub misses_parts : (left : List Part) (f : Listed) → All IsAmong left → All IsProved left → Distinct (map function_of left) → IsMissing listed (map function_of left) f
-      → IsFault listed (written_lines left) (end_offset left) (walk.NotProof f.name Missing)
-  misses_parts left f among each apart missing =
-      let walked = all_lead left among each apart in
-      let fault = walk.NotProof f.name Missing in
-      let lines = flat_map proof_lines left in
-      let first = 0 + length (line_text Header) in
-      let at = first + length (flat_map line_text lines) in
-      let size = size_of Header lines in
-      let same : at + 0 ≡ end_offset left = omega (arith, size) in
-      walk.there (Between []) (Between []) 0 Header (proofs_lines left) (end_offset left) fault walk.header
-      (subst (λ (l : List Line). Refutes listed (Between []) first l (end_offset left) fault) (sym (proofs_are left))
-      (leads_refutes listed (End ∷ []) (end_offset left) fault (Between []) walked.state first lines walked.leads
-      (subst (λ (n : ℕ). Refutes listed walked.state at (End ∷ []) n fault) same
-      (walk.here walked.state at End [] 0 fault
-      (walk.missing walked.state f (subst (λ (l : List Listed). IsMissing listed l f) (sym walked.begun_is) missing))))))
+      → IsFault listed (written_lines left) (end_offset left) f.name Missing
+  misses_parts left f among each apart missing = λ fs members are. misses_there fs members are left f among each apart missing
 
 -- ---- its spelling
 

@@ -1,153 +1,252 @@
--- What a line comes to, by the kind of the line.
-use Rattle.std.proofs.Common.{◌≡◌, ◌≢◌, ℕ, List, [], ◌∷◌, ◌++◌, length, map, refl, sym, ap}
-use Rattle.std.specs.Prelude.{replicate}
+-- What a line inside a part comes to, by the kind of the line.
+use Rattle.std.proofs.Common.{◌≡◌, ◌≢◌, ◌∙◌, ℕ, zero, suc, ◌<◌, ◌≤◌, Bool, true, false, List, [], ◌∷◌, ◌++◌, length, map, refl, sym, ap, nat_le}
+use Rattle.std.proofs.lemmas.Bool.{le-leb, lt-leb}
+use Rattle.memory_spec.specs.Runs.{Run}
 use Rattle.term_core_spec.specs.Term.{Term, not_term}
+use Rattle.term_core_spec.specs.Subterms.{subterm_count}
+use Rattle.term_norm_spec.specs.Normal.{normal}
 use Rattle.proof_tree_spec.specs.Frames.{Frame}
-use Rattle.sim_rules_spec.specs.Obligations.{AreObligations, IsCyclicRule, IsLargeRule}
+use Rattle.sim_rules_spec.specs.Obligations.{IsCyclicRule, IsLargeRule}
 use Rattle.sim_rules_spec.specs.Obligations as rule
-use Rattle.tv_limits.specs.declared.TheConstants.{MAX_VISITS}
-use Rattle.clause_check_spec.specs.Log as clauses
+use Rattle.tv_limits.specs.declared.TheConstants.{MAX_TERMS, MAX_VARIABLES, MAX_VISITS}
+use Rattle.tv_limits.specs.declared.Quantity.TheVariants as quantity
+use Rattle.clause_check_spec.specs.Clause.{Clause, Cnf}
+use Rattle.clause_check_spec.specs.Log.{Step as Given}
+use Rattle.clause_check_spec.specs.Step.{Outcome, Follows, Refused, outcome}
+use Rattle.bit_blast_spec.specs.Goal.{cnf_of}
+use Rattle.discharge_spec.specs.Closing.{is_empty, is_truth}
 use Rattle.cert_text_spec.specs.declared.Symbol.{Symbol}
 use Rattle.cert_text_spec.specs.Lines.{Line, Header, Function, InlineBinary, InlineSource, Leaf, Case, RestrictBinary, RestrictSource, Split, Call, Relation, Log, LogStep, End}
-use Rattle.discharge_spec.specs.declared.GoalQuantity.TheVariants as above
-use Rattle.discharge_spec.specs.Closing.{Closing, Closes, IsLarge, Fails as FailsAt, Unclosed, closing}
 use Rattle.cert_check_spec.specs.declared.RuleWord.TheVariants as fault
-use Rattle.tv_limits.specs.declared.Quantity.TheVariants as quantity
-use Rattle.cert_check_spec.specs.Verdict as walk
-use Rattle.cert_check_spec.specs.Verdict.{Listed, Job, Prove, Close, Checked, State, Between, Inside, begun, Fault, NotProof, Limit, IsFree, IsMissing, IsTest, with_test, AreSteps, IsLater, Passes, Fails}
+use Rattle.cert_check_lines_spec.specs.Sites.{Part}
+use Rattle.cert_check_lines_spec.specs.Jobs.{Origin, opening, Draft, Job, Prove, Relate, Close, InLog}
+use Rattle.cert_check_lines_spec.specs.LineRules as rules
+use Rattle.cert_check_lines_spec.specs.LineRules.{Fault, Breaks, Above, IsRead, Leaves, with_test, Passes, Fails}
+use Rattle.cert_check_lines_spec.specs.Known.{is_known}
 
--- a line passes and leaves a state, or fails, at itself or so many lines after it
+-- a line passes and leaves jobs, or fails, at the line at an offset
 pub data Step : Type 0 where
-  Goes : State → Step
-  Stops : (after : ℕ) → Fault → Step
+  Goes : List Job → Step
+  Stops : (offset : ℕ) → Fault → Step
 
--- `function NAME stack N`
-pub data FunctionStep (listed : List Listed) (s : State) (name : List ℕ) (stack : ℕ) : Step → Type 0 where
-  begins : (f : Listed) → IsFree listed (begun s) name f → stack ≡ f.stack → FunctionStep listed s name stack (Goes (Inside (begun s) f (Prove f.frame ∷ [])))
-  a_stranger : ((f : Listed) → IsFree listed (begun s) name f → ⊥) → FunctionStep listed s name stack (Stops 0 (NotProof name fault.Stranger))
-  another_stack : (f : Listed) → IsFree listed (begun s) name f → stack ≢ f.stack → FunctionStep listed s name stack (Stops 0 (NotProof name fault.Stack))
+-- ---- rules
 
 -- `leaf N`
-pub data LeafStep (parts : List Listed) (f : Listed) (frame : Frame) (below : List Job) (logs : ℕ) : Step → Type 0 where
-  leaves : (terms : List Term) → ((node : ℕ) → IsCyclicRule f.opening frame rule.Leaf node → ⊥)
-      → ((count : ℕ) → IsLargeRule f.opening frame MAX_VISITS rule.Leaf count → ⊥)
-      → AreObligations f.convention f.opening frame rule.Leaf terms → logs ≡ length terms
-      → LeafStep parts f frame below logs (Goes (Inside parts f (map Close terms ++ below)))
-  goes_round : (node : ℕ) → IsCyclicRule f.opening frame rule.Leaf node → LeafStep parts f frame below logs (Stops 0 (NotProof f.name fault.Cyclic))
-  too_many : (count : ℕ) → ((node : ℕ) → IsCyclicRule f.opening frame rule.Leaf node → ⊥) → IsLargeRule f.opening frame MAX_VISITS rule.Leaf count
-      → LeafStep parts f frame below logs (Stops 0 (Limit quantity.Visits))
-  other_logs : (terms : List Term) → ((node : ℕ) → IsCyclicRule f.opening frame rule.Leaf node → ⊥)
-      → ((count : ℕ) → IsLargeRule f.opening frame MAX_VISITS rule.Leaf count → ⊥)
-      → AreObligations f.convention f.opening frame rule.Leaf terms → logs ≢ length terms
-      → LeafStep parts f frame below logs (Stops 0 (NotProof f.name fault.Logs))
+pub data LeafStep (p : Part) (at : ℕ) (origin : Origin) (frame : Frame) (below : List Job) (logs : ℕ) : Step → Type 0 where
+  leaves : (terms : List Term) → Leaves p origin frame rule.Leaf terms → logs ≡ length terms → LeafStep p at origin frame below logs (Goes (map Close terms ++ below))
+  goes_round : (node : ℕ) → IsCyclicRule (opening p origin) frame rule.Leaf node → LeafStep p at origin frame below logs (Stops at (Breaks fault.Cyclic))
+  too_many : (count : ℕ) → ((node : ℕ) → IsCyclicRule (opening p origin) frame rule.Leaf node → ⊥) → IsLargeRule (opening p origin) frame MAX_VISITS rule.Leaf count
+      → LeafStep p at origin frame below logs (Stops at (Above quantity.Visits))
+  other_logs : (terms : List Term) → Leaves p origin frame rule.Leaf terms → logs ≢ length terms → LeafStep p at origin frame below logs (Stops at (Breaks fault.Logs))
 
 -- `case TERM`
-pub data CaseStep (parts : List Listed) (f : Listed) (frame : Frame) (below : List Job) (symbols : List Symbol) : Step → Type 0 where
-  cases : (test : Term) → IsTest frame symbols test
-      → CaseStep parts f frame below symbols (Goes (Inside parts f (Prove (with_test frame test) ∷ Prove (with_test frame (not_term test)) ∷ below)))
-  no_test : ((test : Term) → IsTest frame symbols test → ⊥) → CaseStep parts f frame below symbols (Stops 0 (NotProof f.name fault.Sort))
+pub data CaseStep (at : ℕ) (origin : Origin) (frame : Frame) (below : List Job) (symbols : List Symbol) : Step → Type 0 where
+  cases : (test : Term) → IsRead frame frame.start.path symbols test
+      → CaseStep at origin frame below symbols (Goes (Prove origin (with_test frame test) ∷ Prove origin (with_test frame (not_term test)) ∷ below))
+  no_test : ((test : Term) → IsRead frame frame.start.path symbols test → ⊥) → CaseStep at origin frame below symbols (Stops at (Breaks fault.Sort))
 
 -- where a proof of a frame is expected
-pub record OnProof (P : Frame → List Job → Type 0) (jobs : List Job) : Type 0 where
+pub record OnProof (P : Origin → Frame → List Job → Type 0) (jobs : List Job) : Type 0 where
+  pub origin : Origin
   pub frame : Frame
   pub below : List Job
-  pub top : jobs ≡ Prove frame ∷ below
-  pub holds : P frame below
+  pub top : jobs ≡ Prove origin frame ∷ below
+  pub holds : P origin frame below
 
--- what a log of so many steps comes to
-abbrev pub closed_by : (parts : List Listed) → (f : Listed) → (below : List Job) → (count : ℕ) → Closing → Step
-closed_by parts f below count Closes = Goes (Inside parts f (replicate count Checked ++ below))
-closed_by parts f below count (IsLarge above.Terms) = Stops 0 (Limit quantity.Terms)
-closed_by parts f below count (IsLarge above.Variables) = Stops 0 (Limit quantity.Variables)
-closed_by parts f below count (FailsAt number) = Stops number (NotProof f.name fault.Step)
-closed_by parts f below count Unclosed = Stops 0 (NotProof f.name fault.Unclosed)
+-- ---- logs
 
--- `log N`
-pub record LogsStep (ahead : List Line) (parts : List Listed) (f : Listed) (jobs : List Job) (count : ℕ) (step : Step) : Type 0 where
+abbrev by_clauses : (at : ℕ) → (few : Bool) → Cnf → (below : List Job) → (count : ℕ) → Step
+by_clauses at false cnf below count = Stops at (Above quantity.Variables)
+by_clauses at true cnf below zero = Stops at (Breaks fault.Unclosed)
+by_clauses at true cnf below (suc left) = Goes (InLog at cnf.variables cnf.clauses left ∷ below)
+
+abbrev by_form : (at : ℕ) → (plain few : Bool) → Cnf → (below : List Job) → (count : ℕ) → Step
+by_form at true few cnf below zero = Goes below
+by_form at true few cnf below (suc left) = by_clauses at few cnf below (suc left)
+by_form at false few cnf below count = by_clauses at few cnf below count
+
+abbrev by_size : (at : ℕ) → (small plain few : Bool) → Cnf → (below : List Job) → (count : ℕ) → Step
+by_size at false plain few cnf below count = Stops at (Above quantity.Terms)
+by_size at true plain few cnf below count = by_form at plain few cnf below count
+
+-- what the line of a log of so many steps comes to
+abbrev pub log_comes : List Run → (at : ℕ) → (goal : Term) → (below : List Job) → (count : ℕ) → Step
+log_comes runs at goal below count =
+    by_size at (nat_le (subterm_count goal) MAX_TERMS) (is_truth (normal runs goal)) (nat_le (cnf_of (normal runs goal)).variables MAX_VARIABLES) (cnf_of (normal runs goal)) below count
+
+abbrev by_last : (at offset : ℕ) → (empty : Bool) → (below : List Job) → Step
+by_last at offset true below = Goes below
+by_last at offset false below = Stops offset (Breaks fault.Unclosed)
+
+abbrev by_outcome : (at offset variables : ℕ) → (clauses : List Clause) → (left : ℕ) → (below : List Job) → Given → Outcome → Step
+by_outcome at offset variables clauses left below one (Refused hint kind) = Stops at (Breaks fault.Step)
+by_outcome at offset variables clauses zero below one Follows = by_last at offset (is_empty one.literals) below
+by_outcome at offset variables clauses (suc left) below one Follows = Goes (InLog offset variables (clauses ++ one.literals ∷ []) left ∷ below)
+
+-- what a step comes to
+abbrev pub step_comes : (at offset variables : ℕ) → (clauses : List Clause) → (left : ℕ) → (below : List Job) → Given → Step
+step_comes at offset variables clauses left below one = by_outcome at offset variables clauses left below one (outcome variables clauses one.literals one.hints)
+
+-- where the log of an obligation is expected
+pub record OnGoal (p : Part) (at : ℕ) (jobs : List Job) (count : ℕ) (step : Step) : Type 0 where
   pub goal : Term
   pub below : List Job
   pub top : jobs ≡ Close goal ∷ below
-  pub steps : List clauses.Step
-  pub are : AreSteps ahead count steps
-  pub is : step ≡ closed_by parts f below count (closing f.runs goal steps)
+  pub is : step ≡ log_comes p.runs at goal below count
 
--- `s ..`
-pub record CheckedStep (parts : List Listed) (f : Listed) (jobs : List Job) (step : Step) : Type 0 where
+-- where a step is
+pub record OnLog (at : ℕ) (jobs : List Job) (one : Given) (step : Step) : Type 0 where
+  pub offset : ℕ
+  pub variables : ℕ
+  pub so_far : List Clause
+  pub left : ℕ
   pub below : List Job
-  pub top : jobs ≡ Checked ∷ below
-  pub is : step ≡ Goes (Inside parts f below)
+  pub top : jobs ≡ InLog offset variables so_far left ∷ below
+  pub is : step ≡ step_comes at offset variables so_far left below one
 
--- `end`
-pub data EndStep (listed : List Listed) (s : State) : Step → Type 0 where
-  ends : ((f : Listed) → IsMissing listed (begun s) f → ⊥) → EndStep listed s (Goes (Between (begun s)))
-  lacks : (f : Listed) → IsMissing listed (begun s) f → EndStep listed s (Stops 0 (NotProof f.name fault.Missing))
+-- where a line of a relation is
+pub record OnRelation (jobs : List Job) : Type 0 where
+  pub origin : Origin
+  pub frame : Frame
+  pub draft : Draft
+  pub lines : List Term
+  pub left : ℕ
+  pub below : List Job
+  pub top : jobs ≡ Relate origin frame draft lines left ∷ below
 
-abbrev pub UncheckedStep : State → Step → Type 0
-UncheckedStep (Between parts) step = ⊥
-UncheckedStep (Inside parts f jobs) step = step ≡ Stops 0 (NotProof f.name fault.Later)
-
-abbrev pub InsideStep : (P : List Listed → Listed → List Job → Type 0) → State → Type 0
-InsideStep P (Between parts) = ⊥
-InsideStep P (Inside parts f jobs) = P parts f jobs
-
--- what a line, before these, comes to in a state
-abbrev pub Means : List Listed → (ahead : List Line) → State → Line → Step → Type 0
-Means listed ahead s Header step = (s ≡ Between []) × (step ≡ Goes (Between []))
-Means listed ahead s (Function name stack) step = FunctionStep listed s name stack step
-Means listed ahead s (InlineBinary p) step = UncheckedStep s step
-Means listed ahead s (InlineSource p) step = UncheckedStep s step
-Means listed ahead s (Leaf logs) step = InsideStep (λ parts f jobs. OnProof (λ frame below. LeafStep parts f frame below logs step) jobs) s
-Means listed ahead s (Case symbols) step = InsideStep (λ parts f jobs. OnProof (λ frame below. CaseStep parts f frame below symbols step) jobs) s
-Means listed ahead s (RestrictBinary p count) step = UncheckedStep s step
-Means listed ahead s (RestrictSource p count) step = UncheckedStep s step
-Means listed ahead s (Split p enter after lines) step = UncheckedStep s step
-Means listed ahead s (Call p counts before after) step = UncheckedStep s step
-Means listed ahead s (Relation t) step = ⊥
-Means listed ahead s (Log steps) step = InsideStep (λ parts f jobs. LogsStep ahead parts f jobs steps step) s
-Means listed ahead s (LogStep l) step = InsideStep (λ parts f jobs. CheckedStep parts f jobs step) s
-Means listed ahead s End step = EndStep listed s step
+-- what a line of a rule that is checked comes to before these jobs
+abbrev pub Means : Part → (at : ℕ) → List Job → Line → Step → Type 0
+Means p at jobs (Leaf logs) step = OnProof (λ origin frame below. LeafStep p at origin frame below logs step) jobs
+Means p at jobs (Case symbols) step = OnProof (λ origin frame below. CaseStep at origin frame below symbols step) jobs
+Means p at jobs (Log steps) step = OnGoal p at jobs steps step
+Means p at jobs (LogStep one) step = OnLog at jobs one step
+Means p at jobs (Relation t) step = OnRelation jobs
+Means p at jobs other step = is_known other ≡ false
 
 -- ---- from the rules
 
-module _ (listed : List Listed) (ahead : List Line) where
-  stops_at : (parts : List Listed) (f : Listed) (goal : Term) (jobs : List Job) (count : ℕ) (steps : List clauses.Step) → AreSteps ahead count steps → (c : Closing)
-      → closing f.runs goal steps ≡ c → LogsStep ahead parts f (Close goal ∷ jobs) count (closed_by parts f jobs count c)
-  stops_at parts f goal jobs count steps are c is = record {
-    goal = goal;
+module _ (runs : List Run) (at : ℕ) (goal : Term) (below : List Job) where
+  form : Term
+  form = normal runs goal
+
+  small_goal : (count : ℕ) → subterm_count goal ≤ MAX_TERMS
+      → by_form at (is_truth (normal runs goal)) (nat_le (cnf_of (normal runs goal)).variables MAX_VARIABLES) (cnf_of (normal runs goal)) below count ≡ log_comes runs at goal below count
+  small_goal count small =
+      ap (λ (b : Bool). by_size at b (is_truth (normal runs goal)) (nat_le (cnf_of (normal runs goal)).variables MAX_VARIABLES) (cnf_of (normal runs goal)) below count)
+      (sym (le-leb (subterm_count goal) MAX_TERMS small))
+
+  closes_at : subterm_count goal ≤ MAX_TERMS → is_truth (normal runs goal) ≡ true → Goes below ≡ log_comes runs at goal below 0
+  closes_at small plain =
+      ap (λ (b : Bool). by_form at b (nat_le (cnf_of (normal runs goal)).variables MAX_VARIABLES) (cnf_of (normal runs goal)) below 0) (sym plain) ∙ small_goal 0 small
+
+  opens_at : (left : ℕ) → subterm_count goal ≤ MAX_TERMS → (cnf_of (normal runs goal)).variables ≤ MAX_VARIABLES
+      → Goes (InLog at (cnf_of (normal runs goal)).variables (cnf_of (normal runs goal)).clauses left ∷ below) ≡ log_comes runs at goal below (suc left)
+  opens_at left small few =
+      ap (λ (b : Bool). by_clauses at b (cnf_of (normal runs goal)) below (suc left)) (sym (le-leb (cnf_of (normal runs goal)).variables MAX_VARIABLES few))
+      ∙ (either (is_truth (normal runs goal)) (nat_le (cnf_of (normal runs goal)).variables MAX_VARIABLES)
+      ∙ small_goal (suc left) small)
+    where
+      either : (plain few : Bool) → by_clauses at few (cnf_of (normal runs goal)) below (suc left) ≡ by_form at plain few (cnf_of (normal runs goal)) below (suc left)
+      either true few = refl
+      either false few = refl
+
+  many_terms : (count : ℕ) → MAX_TERMS < subterm_count goal → Stops at (Above quantity.Terms) ≡ log_comes runs at goal below count
+  many_terms count more =
+      ap (λ (b : Bool). by_size at b (is_truth (normal runs goal)) (nat_le (cnf_of (normal runs goal)).variables MAX_VARIABLES) (cnf_of (normal runs goal)) below count)
+      (sym (lt-leb (subterm_count goal) MAX_TERMS more))
+
+  many_variables : (count : ℕ) → subterm_count goal ≤ MAX_TERMS → (is_truth (normal runs goal) ≡ true → count ≢ 0) → MAX_VARIABLES < (cnf_of (normal runs goal)).variables
+      → Stops at (Above quantity.Variables) ≡ log_comes runs at goal below count
+  many_variables count small needed more =
+      ap (λ (b : Bool). by_clauses at b (cnf_of (normal runs goal)) below count) (sym (lt-leb (cnf_of (normal runs goal)).variables MAX_VARIABLES more))
+      ∙ (either count (is_truth (normal runs goal)) (nat_le (cnf_of (normal runs goal)).variables MAX_VARIABLES) needed
+      ∙ small_goal count small)
+    where
+      either : (count : ℕ) (plain few : Bool) → (plain ≡ true → count ≢ 0)
+          → by_clauses at few (cnf_of (normal runs goal)) below count ≡ by_form at plain few (cnf_of (normal runs goal)) below count
+      either zero true few needed = absurd (needed refl refl)
+      either (suc left) true few needed = refl
+      either count false few needed = refl
+
+  no_step_at : subterm_count goal ≤ MAX_TERMS → is_truth (normal runs goal) ≡ false → (cnf_of (normal runs goal)).variables ≤ MAX_VARIABLES
+      → Stops at (Breaks fault.Unclosed) ≡ log_comes runs at goal below 0
+  no_step_at small plain few =
+      ap (λ (b : Bool). by_clauses at b (cnf_of (normal runs goal)) below 0) (sym (le-leb (cnf_of (normal runs goal)).variables MAX_VARIABLES few))
+      ∙ (ap (λ (b : Bool). by_form at b (nat_le (cnf_of (normal runs goal)).variables MAX_VARIABLES) (cnf_of (normal runs goal)) below 0) (sym plain) ∙ small_goal 0 small)
+
+module _ (p : Part) (at : ℕ) where
+  pub passes_means : (jobs : List Job) (line : Line) (more : List Job) → is_known line ≡ true → Passes p at jobs line more → Means p at jobs line (Goes more)
+  passes_means _ _ _ known (rules.leaf origin f jobs terms are) = record { origin = origin; frame = f; below = jobs; top = refl; holds = leaves terms are refl }
+  passes_means _ _ _ known (rules.case origin f jobs symbols test is) = record { origin = origin; frame = f; below = jobs; top = refl; holds = cases test is }
+  passes_means _ _ _ known (rules.restrict_binary origin f jobs point node count terms is some are) = absurd (cc)
+  passes_means _ _ _ known (rules.restrict_source origin f jobs point node count terms is some are) = absurd (cc)
+  passes_means _ _ _ known (rules.split origin f jobs points nodes enter step relations are enters steps lets) = absurd (cc)
+  passes_means _ _ _ known (rules.call origin f jobs points counts before later call binary source callee crosses) = absurd (cc)
+  passes_means _ _ _ known (rules.relation origin f draft lines left jobs symbols t is) =
+      record { origin = origin; frame = f; draft = draft; lines = lines; left = left; below = jobs; top = refl }
+  passes_means _ _ _ known (rules.no_log goal jobs small plain) = record { goal = goal; below = jobs; top = refl; is = closes_at p.runs at goal jobs small plain }
+  passes_means _ _ _ known (rules.log goal jobs left small few) = record { goal = goal; below = jobs; top = refl; is = opens_at p.runs at goal jobs left small few }
+  passes_means _ _ _ known (rules.step offset variables clauses left jobs one follows) = record {
+    offset = offset;
+    variables = variables;
+    so_far = clauses;
+    left = suc left;
     below = jobs;
     top = refl;
-    steps = steps;
-    are = are;
-    is = ap (closed_by parts f jobs count) (sym is);
+    is = ap (by_outcome at offset variables clauses (suc left) jobs one) (sym follows);
+  }
+  passes_means _ _ _ known (rules.last_step offset variables clauses jobs one follows empty) = record {
+    offset = offset;
+    variables = variables;
+    so_far = clauses;
+    left = 0;
+    below = jobs;
+    top = refl;
+    is = ap (λ (b : Bool). by_last at offset b jobs) (sym empty) ∙ ap (by_outcome at offset variables clauses 0 jobs one) (sym follows);
   }
 
-  pub passes_means : (s : State) (line : Line) (next : State) → Passes listed ahead s line next → Means listed ahead s line (Goes next)
-  passes_means _ _ _ walk.header = (refl, refl)
-  passes_means _ _ _ (walk.function s f free) = begins f free refl
-  passes_means _ _ _ (walk.leaf parts f frame jobs terms acyclic small are) = record { frame = frame; below = jobs; top = refl; holds = leaves terms acyclic small are refl }
-  passes_means _ _ _ (walk.case parts f frame jobs symbols test is) = record { frame = frame; below = jobs; top = refl; holds = cases test is }
-  passes_means _ _ _ (walk.log parts f goal jobs count steps are closes) = stops_at parts f goal jobs count steps are Closes closes
-  passes_means _ _ _ (walk.step parts f jobs one) = record { below = jobs; top = refl; is = refl }
-  passes_means _ _ _ (walk.last s free) = ends free
-
-  later_means : (parts : List Listed) (f : Listed) (jobs : List Job) (line : Line) → IsLater line → Means listed ahead (Inside parts f jobs) line (Stops 0 (NotProof f.name fault.Later))
-  later_means parts f jobs _ (walk.later_binary_inline p) = refl
-  later_means parts f jobs _ (walk.later_source_inline p) = refl
-  later_means parts f jobs _ (walk.later_binary_restriction p count) = refl
-  later_means parts f jobs _ (walk.later_source_restriction p count) = refl
-  later_means parts f jobs _ (walk.later_split p enter after lines) = refl
-  later_means parts f jobs _ (walk.later_call p counts before after) = refl
-
-  pub fails_means : (s : State) (line : Line) (after : ℕ) (broken : Fault) → Fails listed ahead s line after broken → Means listed ahead s line (Stops after broken)
-  fails_means _ _ _ _ (walk.later parts f jobs line is) = later_means parts f jobs line is
-  fails_means _ _ _ _ (walk.stranger s name stack none) = a_stranger none
-  fails_means _ _ _ _ (walk.stack s name stack f free apart) = another_stack f free apart
-  fails_means _ _ _ _ (walk.cyclic parts f frame jobs logs node is) = record { frame = frame; below = jobs; top = refl; holds = goes_round node is }
-  fails_means _ _ _ _ (walk.visits parts f frame jobs logs count acyclic large) = record { frame = frame; below = jobs; top = refl; holds = too_many count acyclic large }
-  fails_means _ _ _ _ (walk.logs parts f frame jobs logs terms acyclic small are apart) = record { frame = frame; below = jobs; top = refl; holds = other_logs terms acyclic small are apart }
-  fails_means _ _ _ _ (walk.sort parts f frame jobs symbols none) = record { frame = frame; below = jobs; top = refl; holds = no_test none }
-  fails_means _ _ _ _ (walk.terms parts f goal jobs count steps are is) = stops_at parts f goal jobs count steps are (IsLarge above.Terms) is
-  fails_means _ _ _ _ (walk.variables parts f goal jobs count steps are is) = stops_at parts f goal jobs count steps are (IsLarge above.Variables) is
-  fails_means _ _ _ _ (walk.refused parts f goal jobs count steps number are is) = stops_at parts f goal jobs count steps are (FailsAt number) is
-  fails_means _ _ _ _ (walk.unclosed parts f goal jobs count steps are is) = stops_at parts f goal jobs count steps are Unclosed is
-  fails_means _ _ _ _ (walk.missing s f is) = lacks f is
+  pub fails_means : (jobs : List Job) (line : Line) (offset : ℕ) (wrong : Fault) → is_known line ≡ true → Fails p at jobs line offset wrong → Means p at jobs line (Stops offset wrong)
+  fails_means _ _ _ _ known (rules.leaf_cyclic origin f jobs logs node is) = record { origin = origin; frame = f; below = jobs; top = refl; holds = goes_round node is }
+  fails_means _ _ _ _ known (rules.leaf_visits origin f jobs logs count acyclic large) =
+      record { origin = origin; frame = f; below = jobs; top = refl; holds = too_many count acyclic large }
+  fails_means _ _ _ _ known (rules.leaf_logs origin f jobs logs terms are apart) = record { origin = origin; frame = f; below = jobs; top = refl; holds = other_logs terms are apart }
+  fails_means _ _ _ _ known (rules.case_sort origin f jobs symbols none) = record { origin = origin; frame = f; below = jobs; top = refl; holds = no_test none }
+  fails_means _ _ _ _ known (rules.binary_point origin f jobs point count none) = absurd (cc)
+  fails_means _ _ _ _ known (rules.binary_count origin f jobs point node is) = absurd (cc)
+  fails_means _ _ _ _ known (rules.binary_cyclic origin f jobs point node count other is some cyclic) = absurd (cc)
+  fails_means _ _ _ _ known (rules.binary_visits origin f jobs point node count visits is some acyclic large) = absurd (cc)
+  fails_means _ _ _ _ known (rules.source_point origin f jobs point count none) = absurd (cc)
+  fails_means _ _ _ _ known (rules.source_count origin f jobs point node is) = absurd (cc)
+  fails_means _ _ _ _ known (rules.source_cyclic origin f jobs point node count other is some cyclic) = absurd (cc)
+  fails_means _ _ _ _ known (rules.source_visits origin f jobs point node count visits is some acyclic large) = absurd (cc)
+  fails_means _ _ _ _ known (rules.split_point origin f jobs points enter step relations none) = absurd (cc)
+  fails_means _ _ _ _ known (rules.split_count origin f jobs points nodes enter step relations are bad) = absurd (cc)
+  fails_means _ _ _ _ known (rules.split_passed origin f jobs points nodes enter step relations are enters steps bad) = absurd (cc)
+  fails_means _ _ _ _ known (rules.call_point origin f jobs points counts before later none) = absurd (cc)
+  fails_means _ _ _ _ known (rules.call_count origin f jobs points counts before later call binary source paired bad) = absurd (cc)
+  fails_means _ _ _ _ known (rules.call_callee origin f jobs points before later call binary source paired none) = absurd (cc)
+  fails_means _ _ _ _ known (rules.call_passed origin f jobs points before later call binary source callee paired has bad) = absurd (cc)
+  fails_means _ _ _ _ known (rules.relation_sort origin f draft lines left jobs symbols none) =
+      record { origin = origin; frame = f; draft = draft; lines = lines; left = left; below = jobs; top = refl }
+  fails_means _ _ _ _ known (rules.terms goal jobs count more) = record { goal = goal; below = jobs; top = refl; is = many_terms p.runs at goal jobs count more }
+  fails_means _ _ _ _ known (rules.variables goal jobs count small needed more) =
+      record { goal = goal; below = jobs; top = refl; is = many_variables p.runs at goal jobs count small needed more }
+  fails_means _ _ _ _ known (rules.no_step goal jobs small plain few) = record { goal = goal; below = jobs; top = refl; is = no_step_at p.runs at goal jobs small plain few }
+  fails_means _ _ _ _ known (rules.refused offset variables clauses left jobs one hint kind is) = record {
+    offset = offset;
+    variables = variables;
+    so_far = clauses;
+    left = left;
+    below = jobs;
+    top = refl;
+    is = ap (by_outcome at offset variables clauses left jobs one) (sym is);
+  }
+  fails_means _ _ _ _ known (rules.unclosed offset variables clauses jobs one follows empty) = record {
+    offset = offset;
+    variables = variables;
+    so_far = clauses;
+    left = 0;
+    below = jobs;
+    top = refl;
+    is = ap (λ (b : Bool). by_last at offset b jobs) (sym empty) ∙ ap (by_outcome at offset variables clauses 0 jobs one) (sym follows);
+  }

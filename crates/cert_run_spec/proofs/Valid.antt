@@ -23,10 +23,12 @@ use Rattle.memory_spec.specs.Runs.{Run}
 use Rattle.term_core_spec.specs.Term.{Term}
 use Rattle.clause_check_spec.specs.Log as clauses
 use Rattle.cert_text_spec.specs.Lines.{Line}
-use Rattle.cert_check_spec.specs.Verdict.{Listed, IsProof}
+use Rattle.cert_check_spec.specs.Verdict.{Listed}
+use Rattle.cert_check_lines_spec.specs.Known.{IsProof}
 use Rattle.validity_laws.specs.Closed.{IsClosedGoal, IsClosed, leaf}
 use Rattle.validity_laws.specs.CheckStatements.{AreLines, listed_of, IsFile, AreFunctions}
-use Rattle.validity_laws.proofs.CheckFunctions.{proofs_give_validity, closed_is_valid}
+use Rattle.validity_laws.proofs.CheckFunctions.{closed_is_valid}
+use Rattle.validity_laws.proofs.Proved.{proofs_give_validity}
 use Rattle.validity_laws.specs.Laws.{IsSorted}
 use Rattle.validity_laws.proofs.Truths.{have_truths}
 use Rattle.cert_run_spec.specs.Files.{sides_of}

@@ -5,8 +5,9 @@ use Rattle.cert_text_spec.specs.Lines.{Line, Header, Function, Leaf, Log, LogSte
 use Rattle.cert_text_spec.specs.Certificates.{IsCertificate, IsFault}
 use Rattle.cert_check_spec.specs.declared.RuleWord.{RuleWord}
 use Rattle.tv_limits.specs.declared.Quantity.{Quantity}
-use Rattle.cert_check_spec.specs.Verdict as check
-use Rattle.cert_check_spec.specs.Verdict.{Listed, IsProof}
+use Rattle.cert_check_spec.specs.Verdict.{Listed}
+use Rattle.cert_check_lines_spec.specs.Known as check
+use Rattle.cert_check_lines_spec.specs.Known.{IsProof, IsLimit}
 use Rattle.report_text_spec.specs.Verdict.{Judgement}
 
 -- ---- a certificate
@@ -25,9 +26,9 @@ pub data Outcome : Type 0 where
 pub data IsOutcome (listed : List Listed) (bytes : List ℕ) : Outcome → Type 0 where
   unread : (offset : ℕ) → IsFault bytes offset → IsOutcome listed bytes (Unread offset)
   broken : (lines : List Line) (function : List ℕ) (offset : ℕ) (rule : RuleWord) → IsCertificate bytes lines
-      → check.IsFault listed lines offset (check.NotProof function rule) → IsOutcome listed bytes (Broken function offset rule)
+      → check.IsFault listed lines offset function rule → IsOutcome listed bytes (Broken function offset rule)
   above : (lines : List Line) (offset : ℕ) (quantity : Quantity) → IsCertificate bytes lines
-      → check.IsFault listed lines offset (check.Limit quantity) → IsOutcome listed bytes (Above quantity)
+      → IsLimit listed lines offset quantity → IsOutcome listed bytes (Above quantity)
   proof : (lines : List Line) → IsCertificate bytes lines → IsProof listed lines → IsOutcome listed bytes Proof
 
 -- ---- functions that are proved

@@ -10,7 +10,8 @@ use Rattle.graph_core_spec.specs.Graph as spec
 use Rattle.graph_core.specs.declared.graph.Graph.{Graph}
 use Rattle.graph_core.specs.declared.shared.SharedNode.{SharedNode}
 use Rattle.graph_core.specs.Shared.{shared_node_of, IsSharedNode}
-use Rattle.graph_core.specs.Sorts.{IsStored, HasMoreSorts}
+use Rattle.term_sorts.specs.Sorts.{HasMoreSorts}
+use Rattle.graph_core.specs.Sorts.{IsStored}
 use Rattle.graph_core.specs.Graphs.{graph_of, Grows}
 use Rattle.graph_core.proofs.Sorted.{nodes_below}
 use Rattle.graph_core.proofs.Growing.{nodes_kept}

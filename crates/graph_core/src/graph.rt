@@ -4,22 +4,22 @@ ghost use Rattle.std.specs.Prelude.{◌≡◌, ◌<◌, ◌≤◌, ◌^◌, ◌�
 ghost use Rattle.std.specs.Prelude.{map};
 ghost use Rattle.term_core.specs.Trees.{term_of};
 ghost use Rattle.term_bank.specs.Nodes.{IsNode as IsTermNode, Holds, build, Extends};
+ghost use Rattle.term_sorts.specs.Sorts.{AreSorts};
 ghost use Rattle.graph_core_spec.specs.Graph as spec;
 ghost use Rattle.graph_core_spec.specs.Graph.{empty, with_call, with_nodes};
 ghost use Rattle.graph_core.specs.Shared.{shared_node_of, IsSharedNode};
-ghost use Rattle.graph_core.specs.Sorts.{AreSorts};
 ghost use Rattle.graph_core.specs.Graphs.{binding_of, bindings_of, graph_of, node_of};
 ghost use Rattle.graph_core.specs.Graphs.{Adds, AreShared, Grows};
 
 use crate::shared::{SharedBinding, SharedNode};
 use crate::sharing::share;
-use crate::sorts::add_sorts;
 use graph_core_spec::Next;
 use std::alloc::{AllocError, Global};
 use std::marker::Model;
 use term_bank::{Bank, TermId, TermNode};
 use term_core::Term;
 use term_core_spec::{Sort, Variable};
+use term_sorts::add_sorts;
 use term_substitution::intern;
 
 /// A variable, and the term whose value it gets.

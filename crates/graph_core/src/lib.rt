@@ -11,7 +11,6 @@ mod graph;
 mod run;
 mod shared;
 mod sharing;
-mod sorts;
 mod validity;
 mod variables;
 mod walks;

@@ -1,4 +1,4 @@
--- Functions whose parts are closed are proved, and valid.
+-- A function whose frame has a proof by Leaf and Case, each obligation of which is closed, is proved, and valid.
 use Rattle.std.proofs.Common.{◌≡◌, ◌∙◌, ℕ, zero, suc, ◌+◌, ◌^◌, ◌<◌, ◌≤◌, List, [], ◌∷◌, ◌++◌, map, get_or, refl, sym, ap, subst, arith, append_assoc, append-nil}
 use Rattle.std.specs.Prelude.{All, Contains}
 use Rattle.std.proofs.lemmas.List.{get_or_default}
@@ -25,14 +25,12 @@ use Rattle.agreement_laws.proofs.Pairs.{runs_are}
 use Rattle.validity_laws.specs.Derivation.{Function, pair_for, AtEntry, no_zone, stated, IsProved, AreSides, IsFunction, IsProvedFunction, AreProved, none, one_more}
 use Rattle.validity_laws.specs.Derivation as derivation
 use Rattle.validity_laws.proofs.Functions.{is_pair, functions_valid}
-use Rattle.cert_text_spec.specs.Lines.{Line}
-use Rattle.cert_check_spec.specs.Verdict.{Listed, IsProof, with_test}
+use Rattle.cert_check_lines_spec.specs.LineRules.{with_test}
 use Rattle.validity_laws.specs.Closed.{IsClosedGoal, IsClosed, leaf, case}
-use Rattle.validity_laws.specs.CheckStatements.{AreLines, listed_of, IsFile, AreFunctions, ClosedIsValid}
+use Rattle.validity_laws.specs.CheckStatements.{listed_of, IsFile, ClosedIsValid}
 use Rattle.validity_laws.proofs.Good.{IsPlain, IsTest, AreTests, not_good}
 use Rattle.validity_laws.proofs.Graphs.{obligations_good, entry_good}
 use Rattle.validity_laws.proofs.Validity.{goal_true}
-use Rattle.validity_laws.proofs.Walk.{parts_closed}
 
 -- ---- lines in scope
 
@@ -95,55 +93,6 @@ module _ (q : Pair) (g : Function) (sides : AreSides q) (file : IsFile q) (funct
       small = small;
       proved = closed_proved (entry_frame p).start (entry_frame p) closed refl (entry_good q g sides file function small) refl refl;
     }
-
--- ---- all functions
-
-module _ (q : Pair) where
-  abbrev IsProvedAlways : Function → Type 0
-  IsProvedAlways g = (earlier : List Function) → IsProvedFunction q earlier g
-
-  proved_more : (before functions : List Function) → AreProved q before → All IsProvedAlways functions → AreProved q (before ++ functions)
-  proved_more before [] proved all = subst (AreProved q) (sym (append-nil before)) proved
-  proved_more before (g ∷ functions) proved all =
-      subst (AreProved q) (append_assoc before (g ∷ []) functions)
-      (proved_more (before ++ g ∷ []) functions (one_more before g proved (All-head IsProvedAlways g functions all before)) (All-tail IsProvedAlways g functions all))
-
-  -- a listed function is that of some function
-  listed_from : (functions : List Function) (f : Listed) → Contains (map (listed_of q) functions) f → (g : Function) × Contains functions g × (f ≡ listed_of q g)
-  listed_from [] f (k, within, at) = absurd (omega (arith, within))
-  listed_from (g ∷ functions) f (zero, within, at) = (g, (0, omega arith, refl), sym at)
-  listed_from (g ∷ functions) f (suc k, within, at) =
-      let rest = listed_from functions f (k, omega (arith, within), at) in
-      (rest.0, (suc rest.1.0, omega (arith, rest.1.1), rest.1.2), rest.2)
-
-  listed_to : (functions : List Function) (g : Function) → Contains functions g → Contains (map (listed_of q) functions) (listed_of q g)
-  listed_to [] g (k, within, at) = absurd (omega (arith, within))
-  listed_to (h ∷ functions) g (zero, within, at) = (0, omega arith, ap (listed_of q) at)
-  listed_to (h ∷ functions) g (suc k, within, at) =
-      let rest = listed_to functions g (k, omega (arith, within), at) in
-      (suc rest.0, omega (arith, rest.1), rest.2)
-
-  module _ (functions : List Function) (lines : List Line) (sides : AreSides q) (file : IsFile q) (are : AreFunctions q functions) (spelled : AreLines lines)
-      (proof : IsProof (map (listed_of q) functions) lines) where
-    closed_part : (g : Function) → Contains functions g → IsClosed (listed_of q g) (entry_frame (pair_for q g))
-    closed_part g among =
-        let has = parts_closed (map (listed_of q) functions) lines spelled proof (listed_of q g) (listed_to functions g among) in
-        let from = listed_from functions has.part has.is_listed in
-        let same : from.0 ≡ g = are.apart from.0 g from.1 among (ap (λ (f : Listed). f.name) (sym from.2) ∙ has.named) in
-        let whole : has.part ≡ listed_of q g = from.2 ∙ ap (listed_of q) same in
-        subst (λ (f : Listed). IsClosed f f.frame) whole has.closed
-
-    always : (g : Function) → Contains functions g → IsProvedAlways g
-    always g among earlier =
-        function_proved q g sides file (All-contains (IsFunction q) functions g are.each among) (All-contains (λ (h : Function). h.stack < 2 ^ 32) functions g are.small among) earlier
-        (closed_part g among)
-
-    all_proved : AreProved q functions
-    all_proved = proved_more [] functions none (λ i d lt. always (get_or functions i d) (i, lt, get_or_default functions i (get_or functions i d) d lt))
-
-    pub proofs_give_validity : (g : Function) → Contains functions g → function_named q.image g.body.name ≡ One g.entry → IsStack q.image g.entry g.stack
-        → IsValid q.image q.unit g.body.name g.stack
-    proofs_give_validity g among named stack = functions_valid q functions sides all_proved g among named stack
 
 -- ---- a function alone
 

@@ -7,7 +7,6 @@ pub mod SourceGraphs
 pub mod Simulated
 pub mod Functions
 pub mod Parts
-pub mod Walk
 pub mod Good
 pub mod Conditions
 pub mod Entry
@@ -19,5 +18,6 @@ pub mod CheckFunctions
 pub mod CallTerms
 pub mod Shown
 pub mod Accepted
+pub mod Proved
 pub mod Excluded
 pub mod Truths

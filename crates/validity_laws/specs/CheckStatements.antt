@@ -10,16 +10,13 @@ use Rattle.cert_text_spec.specs.Certificates.{AHeader, Fits, after}
 use Rattle.validity_spec.specs.Claim.{IsValid}
 use Rattle.agreement_laws.specs.EntryFrame.{Pair, entry_frame, entry_opening}
 use Rattle.validity_laws.specs.Derivation.{Function, pair_for, no_zone, stated, AreSides, IsFunction}
-use Rattle.cert_check_spec.specs.Verdict.{Listed, IsProof}
-use Rattle.validity_laws.specs.Closed.{IsClosed, HasPart}
+use Rattle.cert_check_spec.specs.Verdict.{Listed}
+use Rattle.cert_check_lines_spec.specs.Known.{IsProof}
+use Rattle.validity_laws.specs.Closed.{IsClosed}
 
 -- lines that are expected one after the other, as those of every certificate are
 abbrev pub AreLines : List Line → Type 0
 AreLines lines = Derives Fits after (AHeader ∷ []) lines
-
--- where no line breaks a rule each listed function has a part
-abbrev pub PartsAreClosed : Type 0
-PartsAreClosed = (listed : List Listed) (lines : List Line) → AreLines lines → IsProof listed lines → (f : Listed) → Contains listed f → HasPart listed f
 
 -- ---- functions of an executable and of a unit
 

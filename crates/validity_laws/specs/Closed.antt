@@ -1,6 +1,5 @@
--- What a part of a certificate shows: a tree of Leaf and Case at the frame of its function, each of whose obligations is
--- closed by a log.
-use Rattle.std.specs.Prelude.{◌≡◌, List, All, Contains}
+-- A tree of Leaf and Case at the frame of a function, each of whose obligations is closed by a log.
+use Rattle.std.specs.Prelude.{◌≡◌, List, All}
 use Rattle.memory_spec.specs.Runs.{Run}
 use Rattle.term_core_spec.specs.Term.{Term, not_term}
 use Rattle.proof_tree_spec.specs.Frames.{Frame}
@@ -9,7 +8,8 @@ use Rattle.sim_rules_spec.specs.Obligations.{AreObligations}
 use Rattle.sim_rules_spec.specs.Obligations as rule
 use Rattle.clause_check_spec.specs.Log.{Step}
 use Rattle.discharge_spec.specs.Closing.{Closes, closing}
-use Rattle.cert_check_spec.specs.Verdict.{Listed, with_test}
+use Rattle.cert_check_spec.specs.Verdict.{Listed}
+use Rattle.cert_check_lines_spec.specs.LineRules.{with_test}
 
 -- a log closes the goal
 abbrev pub IsClosedGoal : List Run → Term → Type 0
@@ -20,10 +20,3 @@ pub data IsClosed (f : Listed) : Frame → Type 0 where
   leaf : (frame : Frame) (terms : List Term) → AreObligations f.convention f.opening frame rule.Leaf terms → All (IsClosedGoal f.runs) terms → IsClosed f frame
   case : (frame : Frame) (test : Term) → IsLine frame.setting frame.start.path test → IsClosed f (with_test frame test) → IsClosed f (with_test frame (not_term test))
       → IsClosed f frame
-
--- a listed function of the same name has one
-pub record HasPart (listed : List Listed) (f : Listed) : Type 0 where
-  pub part : Listed
-  pub is_listed : Contains listed part
-  pub named : part.name ≡ f.name
-  pub closed : IsClosed part part.frame

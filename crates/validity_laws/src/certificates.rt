@@ -1,15 +1,8 @@
 //! The laws of checked certificates: each function's clause is one law, and its body is empty.
 
 ghost use Rattle.validity_laws.specs.Accepted.{AcceptedIsValid};
-ghost use Rattle.validity_laws.specs.CheckStatements.{ClosedIsValid, PartsAreClosed};
-ghost use Rattle.validity_laws.specs.CheckStatements.{ProofsGiveValidity};
+ghost use Rattle.validity_laws.specs.CheckStatements.{ClosedIsValid, ProofsGiveValidity};
 ghost use Rattle.validity_laws.specs.Shown.{ShownIsProved, ShownPartsAreValid};
-
-/// Of a certificate no line of which breaks a rule, each listed function has a part, and each
-/// obligation of that part is closed.
-pub fn parts_are_closed()
-    ensures { PartsAreClosed }
-{}
 
 /// Functions of which a certificate is a proof are valid: of each that the file has at its name,
 /// and that takes this much stack, the code agrees with the source.

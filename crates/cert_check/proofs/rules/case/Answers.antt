@@ -12,17 +12,17 @@ take_proof-premises-requires c = case_top c.args.symbols.now c.args.jobs.now.ite
 
 -- no test
 pub returns-clause-step : goal.returns-clause-step
-returns-clause-step c = λ listed ahead parts f is.
+returns-clause-step c = λ fs parts m at is.
     let top = case_top c.args.symbols.now c.args.jobs.now.items c.requires.next in
-    test_fails listed ahead parts c.args.function.now f is c.args.bank.now c.test.new.bank c.args.jobs.now.items top.0 c.args.jobs.now.items top.1 c.args.symbols.now _ top.2
-    (c.in-Err-attempt.ensures.test f is)
+    test_fails fs parts m at c.args.function.now is c.args.bank.now c.test.new.bank c.args.jobs.now.items top.0 c.args.jobs.now.items top.1 c.args.symbols.now _ top.2
+    (c.in-Err-attempt.ensures.test m.listed is)
 
 pub returns-3-clause-step : goal.returns-3-clause-step
-returns-3-clause-step c = λ listed ahead parts f is.
+returns-3-clause-step c = λ fs parts m at is.
     let inside = inside_top (length c.args.bank.now) c.take_proof-premises.new.jobs.items _ (subst (AreInside (length c.args.bank.now)) c.take_proof-premises.ensures c.requires.kept.inside) in
-    case_passes listed ahead parts c.args.function.now f is c.args.bank.now c.test.new.bank c.args.jobs.now.items c.take_proof-premises.new.jobs.items c.push_branches.new.jobs.items c.take_proof-premises.result
+    case_passes fs parts m at c.args.function.now is c.args.bank.now c.test.new.bank c.args.jobs.now.items c.take_proof-premises.new.jobs.items c.push_branches.new.jobs.items c.take_proof-premises.result
     c.args.symbols.now c.in-Ok-attempt.field-0 c.test.ensures.extends c.take_proof-premises.ensures inside.0
-    (same_premises c.args.bank.now c.test.new.bank c.test.ensures.extends c.take_proof-premises.result.items inside.1) (subst (λ (premises : List Branch). HasBranches c.take_proof-premises.new.jobs.items c.push_branches.new.jobs.items premises c.in-Ok-attempt.field-0) c.as_slice.ensures.value c.in-Ok-attempt-2.ensures) (c.in-Ok-attempt.ensures.test f is)
+    (same_premises c.args.bank.now c.test.new.bank c.test.ensures.extends c.take_proof-premises.result.items inside.1) (subst (λ (premises : List Branch). HasBranches c.take_proof-premises.new.jobs.items c.push_branches.new.jobs.items premises c.in-Ok-attempt.field-0) c.as_slice.ensures.value c.in-Ok-attempt-2.ensures) (c.in-Ok-attempt.ensures.test m.listed is)
 
 pub returns-3-clause-kept : goal.returns-3-clause-kept
 returns-3-clause-kept c =

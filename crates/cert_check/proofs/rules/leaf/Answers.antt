@@ -1,6 +1,7 @@
 use Rattle.std.proofs.Common.{◌≡◌, ◌∙◌, ◌++◌, ℕ, List, Ok, Err, length, sym, ap, subst, arith}
 use Rattle.cert_text_spec.specs.Lines.{Leaf}
-use Rattle.cert_check_spec.specs.Verdict.{Inside, Passes}
+use Rattle.cert_check_lines_spec.specs.LineRules.{Passes}
+use Rattle.cert_check_lines_spec.specs.Parts.{part_of, unfolded}
 use Rattle.path_cond.proofs.Banks.{extends_itself}
 use Rattle.cert_check_frames.specs.declared.jobs.Job.TheVariants.{Prove}
 use Rattle.cert_check_frames.specs.Listed.{frame_at}
@@ -26,30 +27,30 @@ leaf_goals-requires-clause-opened c = record { of_binary = c.requires.kept.opene
 
 -- no obligations
 pub returns-in-Err-clause-step : goal.returns-in-Err-clause-step
-returns-in-Err-clause-step c = λ listed ahead parts f is.
-    leaf_fails listed ahead parts c.args.function.now f is c.args.bank.now c.leaf_goals.new.bank c.args.jobs.now.items c.take_proof-premises.new.jobs.items c.take_proof-premises.new.jobs.items
+returns-in-Err-clause-step c = λ fs parts m at is.
+    leaf_fails fs parts m at c.args.function.now is c.args.bank.now c.leaf_goals.new.bank c.args.jobs.now.items c.take_proof-premises.new.jobs.items c.take_proof-premises.new.jobs.items
     c.take_proof-premises.result c.args.logs c.leaf_fault.result c.take_proof-premises.ensures
-    (fault_for f c.leaf_goals.new.bank c.args.bank.now c.as_slice.result.now c.take_proof-premises.result.items c.in-Err.refusal c.leaf_fault.result c.as_slice.ensures.value c.leaf_fault.ensures
-    (c.in-Err.ensures.goals f is))
+    (fault_for m.listed c.leaf_goals.new.bank c.args.bank.now c.as_slice.result.now c.take_proof-premises.result.items c.in-Err.refusal c.leaf_fault.result c.as_slice.ensures.value c.leaf_fault.ensures
+    (c.in-Err.ensures.goals m.listed is))
 
 -- another number
 pub returns-then-len-logs-clause-step : goal.returns-then-len-logs-clause-step
-returns-then-len-logs-clause-step c = λ listed ahead parts f is.
-    logs_fail listed ahead parts c.args.function.now f is c.args.bank.now c.leaf_goals.new.bank c.args.jobs.now.items c.take_proof-premises.new.jobs.items c.take_proof-premises.result c.args.logs
+returns-then-len-logs-clause-step c = λ fs parts m at is.
+    logs_fail fs parts m at c.args.function.now is c.args.bank.now c.leaf_goals.new.bank c.args.jobs.now.items c.take_proof-premises.new.jobs.items c.take_proof-premises.result c.args.logs
     c.in-Ok.goals c.take_proof-premises.ensures
-    (goals_for f c.leaf_goals.new.bank c.args.bank.now c.as_slice.result.now c.take_proof-premises.result.items c.in-Ok.goals c.as_slice.ensures.value (c.in-Ok.ensures.goals f is))
+    (goals_for m.listed c.leaf_goals.new.bank c.args.bank.now c.as_slice.result.now c.take_proof-premises.result.items c.in-Ok.goals c.as_slice.ensures.value (c.in-Ok.ensures.goals m.listed is))
     (λ same. c.if-len-logs.true (omega (arith, same, c.in-Ok.goals.ok.0)))
 
 pub returns-2-clause-step : goal.returns-2-clause-step
-returns-2-clause-step c = λ listed ahead parts f is.
+returns-2-clause-step c = λ fs parts m at is.
     let inside = inside_top (length c.args.bank.now) c.take_proof-premises.new.jobs.items _ (subst (AreInside (length c.args.bank.now)) c.take_proof-premises.ensures c.requires.kept.inside) in
     let count : length c.in-Ok.goals.items ≡ c.args.logs = omega (arith, c.in-Ok.goals.ok.0, c.if-len-logs.false) in
-    subst (λ (n : ℕ). Passes listed ahead (Inside parts f (jobs_of c.args.bank.now (frame_at c.args.function.now) c.args.jobs.now.items)) (Leaf n)
-    (Inside parts f (jobs_of c.leaf_goals.new.bank (frame_at c.args.function.now) c.push_goals.new.jobs.items))) count
-    (leaf_passes listed ahead parts c.args.function.now f is c.args.bank.now c.leaf_goals.new.bank c.args.jobs.now.items c.take_proof-premises.new.jobs.items c.push_goals.new.jobs.items
+    subst (λ (n : ℕ). Passes (part_of fs parts m (unfolded m)) at (jobs_of c.args.bank.now (frame_at c.args.function.now) c.args.jobs.now.items) (Leaf n)
+    (jobs_of c.leaf_goals.new.bank (frame_at c.args.function.now) c.push_goals.new.jobs.items)) count
+    (leaf_passes fs parts m at c.args.function.now is c.args.bank.now c.leaf_goals.new.bank c.args.jobs.now.items c.take_proof-premises.new.jobs.items c.push_goals.new.jobs.items
     c.take_proof-premises.result c.in-Ok.goals c.leaf_goals.ensures.extends c.take_proof-premises.ensures inside.0
     (c.in-Ok-attempt.ensures ∙ ap (λ (l : List ℕ). c.take_proof-premises.new.jobs.items ++ logs_last l) c.as_slice-2.ensures.value)
-    (goals_for f c.leaf_goals.new.bank c.args.bank.now c.as_slice.result.now c.take_proof-premises.result.items c.in-Ok.goals c.as_slice.ensures.value (c.in-Ok.ensures.goals f is)))
+    (goals_for m.listed c.leaf_goals.new.bank c.args.bank.now c.as_slice.result.now c.take_proof-premises.result.items c.in-Ok.goals c.as_slice.ensures.value (c.in-Ok.ensures.goals m.listed is)))
 
 pub returns-2-clause-kept : goal.returns-2-clause-kept
 returns-2-clause-kept c =

@@ -6,7 +6,7 @@ use Rattle.cert_check.proofs.Entered.{begin_goes, stranger_goes}
 use Rattle.cert_check.proofs.walk.begin.Goals as goal
 
 pub free-requires : goal.free-requires
-free-requires c = subst (AreIndices (length c.args.listed.now)) (sym c.as_slice.ensures.value) c.requires.indices
+free-requires c = subst (AreIndices (length c.args.listed.now)) (sym c.as_slice.ensures.value) c.requires.sound.indices
 
 pub enter-requires : goal.enter-requires
 enter-requires c = slice_get_within c.args.listed.now c.in-Some.index c.in-Some.ensures.0.function c.in-Some.ensures.0.there
@@ -20,6 +20,6 @@ returns-in-Some c =
 
 pub returns-in-None : goal.returns-in-None
 returns-in-None c =
-    stranger_goes c.args.listed.now c.args.walk.now _ c.args.part.now.name.items c.args.part.now.stack c.args.line
+    stranger_goes c.args.listed.now c.args.walk.now _ c.args.part.now.name.items c.args.part.now.stack c.args.line c.requires
     (subst (λ (name : List ℕ). IsFreeAt c.args.listed.now c.args.walk.now.parts.items name None) c.as_slice-2.ensures.value
     (subst (λ (parts : List ℕ). IsFreeAt c.args.listed.now parts c.as_slice-2.result.now None) c.as_slice.ensures.value c.in-None.ensures))

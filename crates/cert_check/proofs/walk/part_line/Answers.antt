@@ -5,12 +5,8 @@ use Rattle.cert_text_spec.specs.declared.Symbol.{Symbol}
 use Rattle.cert_text_spec.specs.Lines.{Case}
 use Rattle.cert_check.specs.Expectations.{IsNext, AreAfter}
 use Rattle.cert_check.specs.Steps.{IsStep}
-use Rattle.cert_check.proofs.InPart.{later_fails}
 use Rattle.cert_check.proofs.Entered.{no_other_line}
 use Rattle.cert_check.proofs.walk.part_line.Goals as goal
-
-pub returns-then-is_unchecked-clause-step : goal.returns-then-is_unchecked-clause-step
-returns-then-is_unchecked-clause-step c = λ listed ahead parts f is. later_fails listed ahead parts c.args.function.now f is _ _ (sym c.is_unchecked.ensures ∙ c.if-is_unchecked.true)
 
 pub leaf-requires-clause-next : goal.leaf-requires-clause-next
 leaf-requires-clause-next c = subst (λ l. IsNext c.args.jobs.now.items (line_of l)) c.in-Leaf.is c.requires.next
@@ -44,5 +40,5 @@ returns-in-Case-clause-follows c =
 
 pub unreachable-requires : goal.unreachable-requires
 unreachable-requires c =
-    no_other_line c.args.line.now c.args.jobs.now.items c.requires.next c.requires.inside (sym c.is_unchecked.ensures ∙ c.if-is_unchecked.false) c.in_default.not-Leaf c.in_default.not-Case
+    no_other_line c.args.line.now c.args.jobs.now.items c.requires.next c.requires.inside c.requires.known c.in_default.not-Leaf c.in_default.not-Case
     c.requires.plain

@@ -1,0 +1,4 @@
+pub mod Subterms
+pub mod Orders
+pub mod Walks
+pub mod Sorted
