@@ -1,5 +1,6 @@
 -- Lists of trees behind pointers, one more at a time.
-use Rattle.std.proofs.Common.{◌≡◌, ℕ, suc, ◌+◌, ◌<◌, ◌≤◌, List, [], ◌∷◌, ◌++◌, length, map, drop, get_or, filter_map, Option, Some, None, refl, ap, ◌∙◌}
+use Rattle.std.proofs.Common.{◌≡◌, ℕ, suc, ◌+◌, ◌<◌, ◌≤◌, List, [], ◌∷◌, ◌++◌, length, map, drop, get_or, filter_map, Option, Some, None, refl, sym, ap, ◌∙◌}
+use Rattle.std.specs.Prelude.{Bool, Ok}
 use Rattle.std.specs.List.{cons_option}
 use Rattle.std.specs.declared.alloc.Global.{Global as Allocator}
 use Rattle.std.specs.declared.boxed.Box.{Box}
@@ -10,7 +11,9 @@ use Rattle.c_syntax.specs.declared.unit.ExternalDeclaration.{ExternalDeclaration
 use Rattle.c_syntax.specs.Units.{parameter_of, global_of, external_declaration_of}
 use Rattle.c_types_spec.specs.declared.Scalar.{Scalar}
 use Rattle.c_types_spec.specs.Types as types
-use Rattle.c_types_spec.specs.Units.{scalars_of}
+use Rattle.c_types_spec.specs.Core.{Body}
+use Rattle.c_types_spec.specs.Names.{State, bind}
+use Rattle.c_types_spec.specs.Units.{declared_parameter, parameters, external_declaration, external_declarations, scalars_of}
 use Rattle.c_types_layout.specs.declared.types.CType.{CType}
 use Rattle.c_types_layout.specs.Types.{type_of}
 use Rattle.c_types_expression.specs.Trees.{unboxed}
@@ -25,6 +28,38 @@ pub declarations-more : (list : List (Box ExternalDeclaration Allocator)) (i : �
 declarations-more list i d h = ap (λ l. map external_declaration_of (unboxed l)) (drop_more list i d h)
 
 pub ruleset lists = (parameters-more, globals-more, declarations-more)
+
+-- one more parameter, after those so far
+
+pub parameters-row : (list : List (Box Parameter Allocator)) (i : ℕ) (item : Box Parameter Allocator) (x : Parameter) (has_body : Bool) (done : List types.CType) (st : State) → item ≡ get_or list i item → x ≡ item.value → i < length list
+    → parameters (map parameter_of (unboxed (drop i list))) has_body done st ≡ bind (declared_parameter (parameter_of x) has_body st) (λ more. parameters (map parameter_of (unboxed (drop (i + 1) list))) has_body (done ++ more.0 ∷ []) more.1)
+unfolding parameters
+parameters-row list i item x has_body done st is same h =
+    ap (λ l. parameters l has_body done st) (parameters-more list i item h)
+    ∙ ap (λ y. bind (declared_parameter (parameter_of y) has_body st) (λ more. parameters (map parameter_of (unboxed (drop (i + 1) list))) has_body (done ++ more.0 ∷ []) more.1))
+    (ap (λ (b : Box Parameter Allocator). b.value) (sym is) ∙ sym same)
+
+pub parameters-none : (list : List (Box Parameter Allocator)) (i : ℕ) (has_body : Bool) (done : List types.CType) (st : State) → length list ≤ i → parameters (map parameter_of (unboxed (drop i list))) has_body done st ≡ Ok (done, st)
+unfolding parameters
+parameters-none list i has_body done st h = ap (λ l. parameters (map parameter_of (unboxed l)) has_body done st) (drop_all i list h)
+
+pub types-more : (list : List CType) (x : CType) → map type_of (list ++ x ∷ []) ≡ map type_of list ++ type_of x ∷ []
+types-more [] x = refl
+types-more (y ∷ list) x = ap (λ l. type_of y ∷ l) (types-more list x)
+
+-- one more external declaration, after the bodies so far
+
+pub declarations-row : (list : List (Box ExternalDeclaration Allocator)) (i : ℕ) (item : Box ExternalDeclaration Allocator) (x : ExternalDeclaration) (done : List Body) (st : State) → item ≡ get_or list i item → x ≡ item.value → i < length list
+    → external_declarations (map external_declaration_of (unboxed (drop i list))) done st ≡ bind (external_declaration (external_declaration_of x) done st) (λ more. external_declarations (map external_declaration_of (unboxed (drop (i + 1) list))) more.0 more.1)
+unfolding external_declarations
+declarations-row list i item x done st is same h =
+    ap (λ l. external_declarations l done st) (declarations-more list i item h)
+    ∙ ap (λ y. bind (external_declaration (external_declaration_of y) done st) (λ more. external_declarations (map external_declaration_of (unboxed (drop (i + 1) list))) more.0 more.1))
+    (ap (λ (b : Box ExternalDeclaration Allocator). b.value) (sym is) ∙ sym same)
+
+pub declarations-none : (list : List (Box ExternalDeclaration Allocator)) (i : ℕ) (done : List Body) (st : State) → length list ≤ i → external_declarations (map external_declaration_of (unboxed (drop i list))) done st ≡ Ok (done, st)
+unfolding external_declarations
+declarations-none list i done st h = ap (λ l. external_declarations (map external_declaration_of (unboxed l)) done st) (drop_all i list h)
 
 -- ---- types
 

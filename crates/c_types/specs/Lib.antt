@@ -1,2 +1,3 @@
 pub mod Typed
 pub mod Functions
+pub mod Reached

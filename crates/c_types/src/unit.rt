@@ -1,6 +1,6 @@
 //! Units: the external declarations in order (6.9).
 
-ghost use Rattle.std.specs.Prelude.{◌≡◌, ◌++◌, ◌∷◌, [], Ok, map};
+ghost use Rattle.std.specs.Prelude.{◌≡◌, ◌++◌, ◌∷◌, [], None, Ok, map};
 ghost use Rattle.c_syntax.specs.Expressions.{declarator_of};
 ghost use Rattle.c_syntax.specs.Units.{external_declaration_of, global_of, unit_of};
 ghost use Rattle.c_types_expression.specs.Trees.{unboxed};
@@ -8,7 +8,8 @@ ghost use Rattle.c_types_layout.specs.Types.{type_of};
 ghost use Rattle.c_types_operator.specs.Gives.{Gives};
 ghost use Rattle.c_types_scope.specs.States.{nothing, state_of, Runs};
 ghost use Rattle.c_types_spec.specs.Units as rule;
-ghost use Rattle.c_types.specs.Typed.{IsChecked, bodies_of, body_of, typed_of};
+ghost use Rattle.c_types.specs.Reached.{IsReached};
+ghost use Rattle.c_types.specs.Typed.{IsChecked, bodies_of, body_in, body_of, typed_of};
 
 use crate::functions::{declared_function, defined_function};
 use crate::typed::{Body, Typed};
@@ -80,18 +81,20 @@ fn globals<'a>(
     Ok(())
 }
 
-/// One more body. No function has two: the second would be a fault of its declaration.
+/// One more body, of another name.
 fn push_body<'a>(
     bodies: &mut IndexMap<&'a [u8], Body<'a>>,
     body: Box<Body<'a>>,
 ) -> Result<(), Refusal<TypeFault>>
+    requires { body_in (bodies_of bodies.old.entries) (body_of body.value).name ≡ None }
     ensures { Gives (λ _. bodies_of bodies.new.entries) result (Ok (bodies_of bodies.old.entries
         ++ body_of body.entry.value ∷ [])) }
 {
     let body = Box::into_inner(body);
     match bodies.insert(body.name, body) {
         Ok(None) => Ok(()),
-        Ok(Some(_)) | Err(_) => Err(Refusal::NoMemory),
+        Ok(Some(_)) => unreachable!(),
+        Err(_) => Err(Refusal::NoMemory),
     }
 }
 
@@ -103,6 +106,7 @@ fn external_declaration<'a>(
     bodies: &mut IndexMap<&'a [u8], Body<'a>>,
     state: &mut State<'a>,
 ) -> Result<(), Refusal<TypeFault>>
+    requires { IsReached (bodies_of bodies.old.entries) (state_of state.old) }
     ensures { Runs (λ _. bodies_of bodies.new.entries) result state.new (rule.external_declaration
         (external_declaration_of given.now) (bodies_of bodies.old.entries) (state_of state.old)) }
 {
@@ -133,6 +137,7 @@ fn external_declarations<'a>(
     bodies: &mut IndexMap<&'a [u8], Body<'a>>,
     state: &mut State<'a>,
 ) -> Result<(), Refusal<TypeFault>>
+    requires { IsReached (bodies_of bodies.old.entries) (state_of state.old) }
     ensures { Runs (λ _. bodies_of bodies.new.entries) result state.new (rule.external_declarations
         (map external_declaration_of (unboxed list.now)) (bodies_of bodies.old.entries) (state_of
         state.old)) }

@@ -137,10 +137,10 @@ fn index<'a>(
     match x {
         Expression::Index(base, at, offset) => {
             let x = attempt!(expression(alloc, base, Position::Operand, state));
-            let first = attempt_or_drop!(bound_of(place, &x); x);
+            let first = attempt_or_drop!(bound_of(place, &x), Refusal::NoMemory; x);
             let a = attempt!(value_of(alloc, x));
             let y = attempt_or_drop!(expression(alloc, at, Position::Operand, state); a);
-            let second = attempt_or_drop!(bound_of(place, &y); a, y);
+            let second = attempt_or_drop!(bound_of(place, &y), Refusal::NoMemory; a, y);
             let b = attempt_or_drop!(value_of(alloc, y); a);
             subscript(alloc, state.structs(), (first, second), a, b, *offset)
         }

@@ -16,6 +16,15 @@ macro_rules! attempt_or_drop {
             }
         }
     };
+    ($result:expr, $error:expr; $($owned:expr),+) => {
+        match $result {
+            Ok(value) => value,
+            Err(_) => {
+                $(drop($owned);)+
+                return Err($error);
+            }
+        }
+    };
 }
 
 pub mod arithmetic;

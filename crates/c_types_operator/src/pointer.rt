@@ -1,6 +1,6 @@
 //! Pointers that are moved (6.5.6), and elements of arrays (6.5.2.1).
 
-ghost use Rattle.std.specs.Prelude.{◌≡◌, Ok};
+ghost use Rattle.std.specs.Prelude.{◌≡◌, ◌≤◌, ◌^◌, IsSomeAnd, MatchResult, Ok};
 ghost use Rattle.c_types_spec.specs.Operators as operators;
 ghost use Rattle.c_types_spec.specs.Types as types;
 ghost use Rattle.c_types_layout.specs.Structs.{structs_of};
@@ -24,7 +24,7 @@ use c_types_layout::types::{CType, Outer, same_type};
 use c_types_spec::{
     Arithmetic, Direction, LeftOut, Order, Position, SIZE_LIMIT, Standing, TypeFaultKind,
 };
-use std::alloc::Global;
+use std::alloc::{AllocError, Global};
 
 /// The size of a type, which is needed. It is out of memory exactly where the size is not below the
 /// limit, as no type of a unit is.
@@ -271,15 +271,17 @@ pub fn subscript<'a>(
 }
 
 /// The declared length of an array that an index is below; directly under `&` it may be the length.
+/// Out of memory exactly where no `usize` holds the bound.
 #[tactic(auto, unfolding(crate::specs::Operands::operand_of), using(crate::proofs::ByOuter::bounding),)]
-pub fn bound_of(place: Position, x: &Operand<'_>) -> Result<Option<usize>, Refusal<TypeFault>>
-    ensures { Gives (λ b. b) result (Ok (operators.bound_of place (operand_of x.now))) }
+pub fn bound_of(place: Position, x: &Operand<'_>) -> Result<Option<usize>, AllocError>
+    ensures { MatchResult result (λ b. b ≡ operators.bound_of place (operand_of x.now))
+        (λ _. IsSomeAnd (operators.bound_of place (operand_of x.now)) (λ bound. 2 ^ 64 ≤ bound)) }
 {
     match x.of.outer() {
         Outer::Array(Some(length)) => match place {
             Position::Addressed => match sum_of_counts(length as usize, 1) {
                 Ok(bound) => Ok(Some(bound)),
-                Err(_) => Err(Refusal::NoMemory),
+                Err(error) => Err(error),
             },
             Position::Operand | Position::Statement => Ok(Some(length as usize)),
         },

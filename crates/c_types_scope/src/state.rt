@@ -1,6 +1,6 @@
 //! The state in which a unit is read.
 
-ghost use Rattle.std.specs.Prelude.{◌≡◌, ◌++◌, ◌∷◌, [], Ok, MatchResult, option_map};
+ghost use Rattle.std.specs.Prelude.{◌≡◌, ◌+◌, ◌^◌, ◌≤◌, ◌++◌, ◌∷◌, [], Ok, MatchResult, option_map};
 ghost use Rattle.c_token_spec.specs.Words.{entry_of};
 ghost use Rattle.c_types_spec.specs.Names as rule;
 ghost use Rattle.c_types_layout.specs.Structs.{definition_of, structs_of};
@@ -235,21 +235,23 @@ impl<'a> State<'a> {
         Ok(number)
     }
 
-    /// One more loop, and its number.
-    pub fn new_loop(&mut self) -> Result<usize, Refusal<TypeFault>>
-        ensures { Runs (λ n. n) result self.new (rule.new_loop (state_of self.old)) }
+    /// One more loop, and its number; out of memory exactly where no `usize` counts them.
+    pub fn new_loop(&mut self) -> Result<usize, AllocError>
+        ensures { MatchResult result (λ n. rule.new_loop (state_of self.old)
+            ≡ Ok (n, state_of self.new)) (λ _. 2 ^ 64 ≤ self.old.loops + 1) }
     {
         let number = self.loops;
-        self.loops = attempt!(sum(number, 1), Refusal::NoMemory);
+        self.loops = attempt!(sum(number, 1));
         Ok(number)
     }
 
-    /// One more call, and its number.
-    pub fn new_call(&mut self) -> Result<usize, Refusal<TypeFault>>
-        ensures { Runs (λ n. n) result self.new (rule.new_call (state_of self.old)) }
+    /// One more call, and its number; out of memory exactly where no `usize` counts them.
+    pub fn new_call(&mut self) -> Result<usize, AllocError>
+        ensures { MatchResult result (λ n. rule.new_call (state_of self.old)
+            ≡ Ok (n, state_of self.new)) (λ _. 2 ^ 64 ≤ self.old.calls + 1) }
     {
         let number = self.calls;
-        self.calls = attempt!(sum(number, 1), Refusal::NoMemory);
+        self.calls = attempt!(sum(number, 1));
         Ok(number)
     }
 

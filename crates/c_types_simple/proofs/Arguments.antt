@@ -36,7 +36,7 @@ argument-next list i d v rest done core whole h e all =
     ∙ ap (λ p. after done p) (sym (passed-more list i d v rest h))
     ∙ all
 
-map-more : {X Y : Type 0} (f : X → Y) (xs : List X) (x : X) → map f (xs ++ x ∷ []) ≡ map f xs ++ f x ∷ []
+pub map-more : {X Y : Type 0} (f : X → Y) (xs : List X) (x : X) → map f (xs ++ x ∷ []) ≡ map f xs ++ f x ∷ []
 map-more f [] x = refl
 map-more f (y ∷ xs) x = ap (λ l. f y ∷ l) (map-more f xs x)
 

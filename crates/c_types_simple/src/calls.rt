@@ -194,7 +194,7 @@ fn numbered<'a>(
     ensures { Runs (λ m. made_of m.value) result state.new (specs.numbered (name_of callee.entry)
         (values_in values.entry.items) (state_of state.old)) }
 {
-    let number = attempt!(state.new_call());
+    let number = attempt!(state.new_call(), Refusal::NoMemory);
     called(alloc, callee, values, number, state)
 }
 

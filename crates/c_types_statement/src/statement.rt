@@ -371,7 +371,7 @@ fn while_loop<'a>(
         (statement_of inner.now) offset) (context_of context.entry) (state_of state.old)) }
 {
     attempt!(state.open());
-    let number = attempt!(state.new_loop());
+    let number = attempt!(state.new_loop(), Refusal::NoMemory);
     let c = attempt!(condition(alloc, test, state));
     let action = attempt!(body(alloc, inner, looping(context), state));
     state.close();
@@ -394,7 +394,7 @@ fn do_loop<'a>(
         (expression_of test.now) offset) (context_of context.entry) (state_of state.old)) }
 {
     attempt!(state.open());
-    let number = attempt!(state.new_loop());
+    let number = attempt!(state.new_loop(), Refusal::NoMemory);
     let action = attempt!(body(alloc, inner, looping(context), state));
     let c = attempt!(condition(alloc, test, state));
     state.close();
@@ -421,7 +421,7 @@ fn for_loop<'a>(
         state.old)) }
 {
     attempt!(state.open());
-    let number = attempt!(state.new_loop());
+    let number = attempt!(state.new_loop(), Refusal::NoMemory);
     let first = attempt!(for_start(alloc, start, context, state));
     let c = attempt!(for_test(alloc, test, state));
     let last = attempt!(for_step(alloc, step, context, state));
