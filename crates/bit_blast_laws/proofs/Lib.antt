@@ -39,3 +39,5 @@ pub mod NormalVisits
 pub mod NormalWhole
 pub mod Held
 pub mod Fixed
+pub mod Foldings
+pub mod FoldedModels

@@ -4,3 +4,4 @@ pub mod Reads
 pub mod Named
 pub mod Back
 pub mod Held
+pub mod FoldedExamples

@@ -15,7 +15,7 @@ use Rattle.c_parse_laws.specs.Parsers.{Parsers, token, following, choose, next_i
 use Rattle.c_parse_laws.specs.Initializers as initializers
 use Rattle.c_parse_laws.specs.Initializers.{ListPosition, AfterInitial, FollowingComma, next_position, end_of_position, end_of_initial, initials_start, begins_initial, begins_designator, read_initials_part, read_designated, read_designator, read_designators}
 use Rattle.c_parse_token.proofs.Steps.{begins-next}
-use Rattle.c_parse.proofs.StatementFuel.{initial-some}
+use Rattle.c_parse.proofs.BraceFuel.{initial-some}
 
 -- designators are being read
 pub Designating : (inner : Parsers) → (depth : ℕ) → (whole : Outcome Placed Role (Unit {0})) → List Placed → Type 0

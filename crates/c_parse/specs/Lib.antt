@@ -1,3 +1,5 @@
 pub mod Following
 pub mod Refused
 pub mod Places
+pub mod Pieces
+pub mod Runs

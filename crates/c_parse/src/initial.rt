@@ -113,7 +113,7 @@ fn initials<'t>(
 }
 
 /// An initial value, in which so many braces may be open: what is expected after it.
-#[tactic(auto, using(crate::proofs::StatementFuel::fuel_cases))]
+#[tactic(auto, using(crate::proofs::BraceFuel::fuel_cases))]
 #[cycle(initials)]
 pub fn initial<'t>(
     scope: Scope<'_, 't>,

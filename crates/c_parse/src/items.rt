@@ -12,10 +12,10 @@ ghost use Rattle.c_parse.specs.Following.{read_block, read_after_specifiers};
 
 use crate::class::is_typedef;
 use crate::globals::globals;
+use crate::statement::parts;
 use attempt::Refusal;
 use c_parse_declaration::{Scope, external_specifiers, global};
 use c_parse_spec::Role;
-use c_parse_statement::parts;
 use c_parse_token::{SyntaxFault, Tokens, TypedefNames, allocated, attempt};
 use c_syntax::expression::{Specifiers, boxed};
 use c_syntax::statement::Part;

@@ -1,4 +1,5 @@
-//! The syntax of C: what unit tokens are, or their first fault (ISO C11, 6.5 to 6.9).
+//! The syntax of C: what unit tokens are, or their first fault (ISO C11, 6.5 to 6.9). The parsers of
+//! statements are here (`statement`), those of what statements are made of in the crates below.
 //!
 //! [`parse`] has the crate's contract: it gives the tree of a unit exactly where the tokens are
 //! one, and else the fault of the tokens with its kind. Both are defined in `c_parse_spec`, by
@@ -16,11 +17,15 @@ ghost use Rattle.c_parse_token.specs.Lists.{list_of, fault_of, Gives};
 ghost use Rattle.c_parse.specs.Refused.{IsFaultOf, reported};
 
 mod class;
+mod ends;
 mod globals;
 mod initial;
 mod initial_scan;
 mod items;
+mod keywords;
 mod kind;
+mod pieces;
+mod statement;
 
 use attempt::Refusal;
 use c_parse_spec::ParseFaultKind;

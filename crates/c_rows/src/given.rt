@@ -1,7 +1,7 @@
 //! What a row asks a call or a graph for, and where it takes place.
 
+use c_run_value::memory::Memory;
 use c_run_value::setting::{Global as Named, Zone};
-use memory::Memory;
 use memory_spec::Run;
 use row_io::{decimal, split, split_at};
 use std::alloc::{AllocError, Global};

@@ -3,9 +3,9 @@
 use crate::given::{self, Given};
 use c_run::calls::{Call, Outcome, run};
 use c_run_spec::Guard;
+use c_run_value::memory::Memory;
 use c_run_value::setting::Place;
 use c_types::typed::Typed;
-use memory::Memory;
 use row_io::Out;
 use std::alloc::Global;
 

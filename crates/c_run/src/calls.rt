@@ -9,9 +9,9 @@ ghost use Rattle.c_run.specs.Outcomes.{outcome_at, outcome_in};
 use crate::machine::{Ended, Machine, body_named, drive, enter};
 use attempt::{Refusal, attempt};
 use c_run_spec::Guard;
+use c_run_value::memory::Memory;
 use c_run_value::setting::{Place, Setting, Stop, Zone};
 use c_types::typed::Typed;
-use memory::Memory;
 use std::alloc::{AllocError, Global};
 
 /// A call of a function, in a memory.

@@ -11,12 +11,12 @@ ghost use Rattle.c_run.specs.Machines.{IsBegun, IsCalled, IsEntered, IsReceived}
 use crate::frame::{Frame, Pause};
 use crate::running::go;
 use attempt::{Refusal, attempt};
+use c_run_value::memory::Memory;
 use c_run_value::setting::{Setting, Stop};
 use c_types::typed::Body;
 use c_types_core::constants::value_in;
 use c_types_core::values::TooWide;
 use c_types_spec::Scalar;
-use memory::Memory;
 use std::alloc::{AllocError, Global};
 
 /// The functions that run.

@@ -8,10 +8,10 @@ ghost use Rattle.c_run.specs.Weights.{IsBelow, weight_of_all, weight_of_task};
 use crate::frame::{Ending, Frame, Next, Pause, Task};
 use crate::statement::{act, holds};
 use attempt::{Refusal, attempt};
+use c_run_value::memory::Memory;
 use c_run_value::setting::{Setting, Stop};
 use c_types_core::action::Action;
 use c_types_core::expression::Core;
-use memory::Memory;
 
 /// Statements one after the other.
 fn rest<'s, 'a>(

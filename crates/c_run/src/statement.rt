@@ -19,11 +19,11 @@ use attempt::{Refusal, attempt};
 use c_run_spec::Guard;
 use c_run_value::access::store_object;
 use c_run_value::evaluation::{Scene, address_past, value};
+use c_run_value::memory::Memory;
 use c_run_value::setting::{Setting, Stop};
 use c_types_core::action::{Action, Group};
 use c_types_core::expression::Core;
 use c_types_spec::{Jump, Scalar, TestPlace};
-use memory::Memory;
 use std::alloc::AllocError;
 
 /// The value of an expression in a frame.

@@ -10,12 +10,12 @@ ghost use Rattle.c_run_spec.specs.Accesses as spec;
 ghost use Rattle.c_run_value.specs.Settings.{setting_of, zone_of};
 ghost use Rattle.c_run_value.specs.Gives.{Gives, GivesValue, IsKept, IsSize};
 
+use crate::memory::Memory;
 use crate::setting::{Setting, Stop, Zone, is_fixed, is_in_zone};
 use attempt::{Refusal, attempt};
 use c_run_spec::Guard;
 use c_types_core::values::{bits_of, convert};
 use c_types_spec::Scalar;
-use memory::Memory;
 use memory_spec::Run;
 
 /// Addresses are below this.

@@ -14,6 +14,7 @@ ghost use Rattle.c_run_value.specs.Gives.{GivesValue};
 ghost use Rattle.c_run_value.specs.Scenes.{Evaluates, chosen_in};
 
 use crate::access::object_value;
+use crate::memory::Memory;
 use crate::setting::{Setting, Stop, global_address};
 use attempt::{Refusal, attempt};
 use c_run_spec::Guard;
@@ -21,7 +22,6 @@ use c_types_core::constants::{WORD, operator_value, value_in};
 use c_types_core::expression::Core;
 use c_types_core::values::{TooWide, comparison_value, convert};
 use c_types_spec::{Arithmetic, Comparison, Direction, Order, Scalar};
-use memory::Memory;
 
 /// What an expression is evaluated in, with a setting that stays for the whole run.
 #[derive(Clone, Copy)]

@@ -1,11 +1,10 @@
 -- The names of functions with a body.
-use Rattle.std.specs.Prelude.{◌≡◌, ◌≢◌, ℕ, Bool, true, List, [], ◌∷◌, map, filter, flat_map, bytes_eq, All, None, Ok}
+use Rattle.std.specs.Prelude.{◌≡◌, ◌≢◌, ℕ, Bool, true, List, [], ◌∷◌, map, filter, flat_map, bytes_eq, All, None, Ok, find}
 use Rattle.std.specs.List.{IsDistinct}
 use Rattle.c_syntax_spec.specs.Unit.{ExternalDeclaration, EmptyDeclaration, Declaration, Definition, TranslationUnit}
 use Rattle.c_parse_spec.specs.Source.{HasTree}
 use Rattle.c_types_spec.specs.Core.{Body, Typed}
 use Rattle.c_types_spec.specs.Units.{typed}
-use Rattle.pair_setup_spec.specs.SourceReach.{body_of}
 use Rattle.cert_text_spec.specs.Lines.{is_name}
 
 -- the function that an external declaration defines, if it defines one
@@ -42,5 +41,6 @@ AreApart =
 -- where a text has this core, a function with a body there has a name of certificates
 abbrev pub HasName : Type 0
 HasName =
-    (text : List ℕ) (unit : TranslationUnit) (core : Typed) (name : List ℕ) → HasTree text unit → typed unit ≡ Ok core → body_of core name ≢ None
+    (text : List ℕ) (unit : TranslationUnit) (core : Typed) (name : List ℕ) → HasTree text unit → typed unit ≡ Ok core
+    → find (λ (body : Body). bytes_eq body.name name) core.bodies ≢ None
     → is_name name ≡ true

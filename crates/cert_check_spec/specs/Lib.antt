@@ -1,3 +1,2 @@
 pub mod Terms
 pub mod Verdict
-pub mod Samples

@@ -1,13 +1,9 @@
-//! When a certificate is a proof of the listed functions, and else what its first fault is: a rule
-//! that a line breaks, or a limit.
+//! The functions that a certificate is a proof of, and what a line of it can break.
 //!
 //! `specs/Terms.antt` has the terms of certificates as terms over the variables of a proof,
-//! `specs/Verdict.antt` the walk along the lines. Of the rules it has Leaf and Case; at the lines
-//! of the others the fault is [`RuleWord::Later`]. A log is checked as a whole at its line; a step
-//! that doesn't follow is a fault at the step's own line. Of the crate only the types below run.
+//! `specs/Verdict.antt` the listed functions, and which of them lacks a part first. Of the crate
+//! only the types below run.
 #![tactic(auto)]
-
-pub mod samples;
 
 /// What a line of a certificate breaks, as the word of `not a proof`, in the order in which they
 /// are tried at one line.

@@ -34,10 +34,6 @@ unfoldable pub Distinct : List Listed → Type 0
 Distinct [] = Unit {0}
 Distinct (f ∷ left) = All (λ (g : Listed). f.name ≢ g.name) left × Distinct left
 
-pub one_distinct : (f : Listed) → Distinct (f ∷ [])
-unfolding Distinct
-one_distinct f = (All-nil (λ (g : Listed). f.name ≢ g.name), tt)
-
 abbrev pub function_of : Part → Listed
 function_of p = p.function
 

@@ -1,5 +1,5 @@
 -- A certificate has one verdict at most.
-use Rattle.std.proofs.Common.{◌≡◌, ◌≢◌, ◌∙◌, ◌+◌, ℕ, zero, suc, Bool, true, false, List, [], ◌∷◌, ◌++◌, length, map, Some, refl, sym, ap, subst, arith}
+use Rattle.std.proofs.Common.{◌≡◌, ◌≢◌, ◌∙◌, ◌+◌, ℕ, suc, Bool, true, false, List, [], ◌∷◌, ◌++◌, length, map, Some, refl, sym, ap, subst, arith}
 use Rattle.std.specs.Prelude.{All, Contains}
 use Rattle.std.proofs.lemmas.List.Elements.{All-contains, All-map}
 use Rattle.term_core_spec.specs.Term.{Term, not_term}
@@ -486,7 +486,7 @@ module _ (fs : Functions) (members : List Member) (apart : AreApartMembers membe
   IsGoodProgress (Going at s) = IsGood s
   IsGoodProgress (Stopped offset name wrong) = Unit {0}
 
-  takes_good : (p q : Progress) (line : Line) → Takes fs members is_known p line q → IsGoodProgress p → IsGoodProgress q
+  takes_good : (p : Progress) (line : Line) (q : Progress) → Takes fs members is_known p line q → IsGoodProgress p → IsGoodProgress q
   takes_good _ _ _ (walks.goes_on at s middle one known accepts) good = accepts_good at s one middle known accepts good
   takes_good _ _ _ (walks.stops at s one offset name wrong known rejects) good = tt
   takes_good _ _ _ (walks.unknown at s one f part new) good = tt
@@ -499,7 +499,7 @@ module _ (fs : Functions) (members : List Member) (apart : AreApartMembers membe
   one_function _ _ _ (before_proof parts f u) (before_proof _ _ _) = refl
   one_function _ _ _ (in_proof parts f u jobs) (in_proof _ _ _ _) = refl
 
-  one_progress : (p q r : Progress) (line : Line) → IsGoodProgress p → Takes fs members is_known p line q → Takes fs members is_known p line r → q ≡ r
+  one_progress : (p : Progress) (line : Line) (q r : Progress) → IsGoodProgress p → Takes fs members is_known p line q → Takes fs members is_known p line r → q ≡ r
   one_progress _ _ _ _ good (walks.goes_on at s middle one known x) (walks.goes_on _ _ other _ known2 y) =
       ap (λ (c : Came). Going (at + length (line_text one)) (state_of middle c))
       (one_came at s one (To middle) (To other) good known (accepts_comes fs members at s one middle known x) (accepts_comes fs members at s one other known y))
@@ -524,8 +524,8 @@ module _ (fs : Functions) (members : List Member) (apart : AreApartMembers membe
   one_end : (p q r : Progress) (lines : List Line) → IsGoodProgress p → TakesAll fs members is_known p lines q → TakesAll fs members is_known p lines r → q ≡ r
   one_end p _ _ _ good (walks.no_line _) (walks.no_line _) = refl
   one_end p q r _ good (walks.one_line _ middle _ one lines x rest) (walks.one_line _ other _ _ _ y rest2) =
-      let same = one_progress p other middle one good y x in
-      one_end middle q r lines (takes_good p middle one x good) rest (subst (λ (m : Progress). TakesAll fs members is_known m lines r) same rest2)
+      let same = one_progress p one other middle good y x in
+      one_end middle q r lines (takes_good p one middle x good) rest (subst (λ (m : Progress). TakesAll fs members is_known m lines r) same rest2)
 
 -- ---- the law
 
@@ -559,14 +559,6 @@ module _ (listed : List Listed) (apart : AreToldApart listed) where
 
   one_of_two : (lines : List Line) (p q : Progress) → Ends lines p → Ends lines q → p ≡ q
   one_of_two lines p q x y = one_end no_functions (map member_of listed) (apart_members listed apart) before_all p q lines tt x y
-
--- a certificate that is a proof has no fault
-pub proof_and_fault : (listed : List Listed) (lines : List Line) (offset : ℕ) (name : List ℕ) (rule : RuleWord) → AreToldApart listed → IsProof listed lines
-    → IsFault listed lines offset name rule → ⊥
-proof_and_fault listed lines offset name rule apart proves faulty =
-    let x = proves no_functions (map member_of listed) (are_members listed) in
-    let y = faulty no_functions (map member_of listed) (are_members listed) in
-    absurd (let e = ap is_going (one_of_two listed apart lines (Going x.0 (Between x.1)) (Stopped offset name (Breaks rule)) x.2 y) in cc)
 
 module _ (listed : List Listed) (bytes : List ℕ) (apart : AreToldApart listed) where
   -- how a certificate of these lines ends

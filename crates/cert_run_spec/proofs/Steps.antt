@@ -16,7 +16,7 @@ use Rattle.clause_check_spec.specs.Step.{Outcome, Follows, Refused, outcome}
 use Rattle.bit_blast_spec.specs.Goal.{cnf_of}
 use Rattle.discharge_spec.specs.Closing.{is_empty, is_truth}
 use Rattle.cert_text_spec.specs.declared.Symbol.{Symbol}
-use Rattle.cert_text_spec.specs.Lines.{Line, Header, Function, InlineBinary, InlineSource, Leaf, Case, RestrictBinary, RestrictSource, Split, Call, Relation, Log, LogStep, End}
+use Rattle.cert_text_spec.specs.Lines.{Line, Leaf, Case, Relation, Log, LogStep}
 use Rattle.cert_check_spec.specs.declared.RuleWord.TheVariants as fault
 use Rattle.cert_check_lines_spec.specs.Sites.{Part}
 use Rattle.cert_check_lines_spec.specs.Jobs.{Origin, opening, Draft, Job, Prove, Relate, Close, InLog}

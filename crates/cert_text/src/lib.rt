@@ -22,4 +22,5 @@ pub use certificates::{Cert, ReadFault};
 pub use laws::{reads_what_it_writes, writes_what_it_reads};
 pub use offsets::offset;
 pub use reading::read;
+pub use stack::{Group, push_after, push_expected};
 pub use writing::write;

@@ -13,7 +13,7 @@ use tv_limits::NESTING_LIMIT;
 
 /// Lines of one kind, one after the other.
 #[derive(Clone, Copy)]
-pub(crate) struct Group {
+pub struct Group {
     /// What is expected.
     pub expected: Expected,
     /// How many more of them after the first.
@@ -21,7 +21,7 @@ pub(crate) struct Group {
 }
 
 /// So many of a kind are expected before what was expected.
-pub(crate) fn push_expected(
+pub fn push_expected(
     stack: &mut Vec<Group>,
     expected: Expected,
     count: u32,
@@ -149,11 +149,7 @@ fn after_log(stack: &mut Vec<Group>, line: &Line) -> Result<(), AllocError>
 }
 
 /// What is expected after a line that was expected.
-pub(crate) fn push_after(
-    stack: &mut Vec<Group>,
-    expected: Expected,
-    line: &Line,
-) -> Result<(), AllocError>
+pub fn push_after(stack: &mut Vec<Group>, expected: Expected, line: &Line) -> Result<(), AllocError>
     ensures { OnOk result (stack_of stack.new.items
         ≡ spec.after (expected_of expected) (line_of line.now) ++ stack_of stack.old.items) }
 {

@@ -1,3 +1,5 @@
 pub mod Naming
 pub mod Inlined
 pub mod Inlining
+pub mod Kept
+pub mod Samples

@@ -3,8 +3,8 @@ use Rattle.std.proofs.Common.{◌≡◌, ◌⊎◌, ℕ, ◌<◌, List, [], ◌�
 use Rattle.std.specs.Prelude.{Contains, OnOk, IfOk, IfErr, Result, Ok, Err, Option, Some, None, IsSome}
 use Rattle.std.proofs.Common.{true≢false, refl}
 use Rattle.std.proofs.lemmas.List.Elements.{Contains-append_left, Contains-append_cases, Contains-push}
-use Rattle.call_graph.specs.Graph.{Grows}
-use Rattle.call_graph.proofs.Growing.{grows-as, grows-then, grows-kept}
+use Rattle.pair_setup_calls.specs.Graph.{Grows}
+use Rattle.pair_setup_calls.proofs.Growing.{grows-as, grows-then, grows-kept}
 use Rattle.pair_setup.specs.Names.{IsOf}
 
 -- ---- results

@@ -10,7 +10,7 @@ use Rattle.elf_read_spec.specs.declared.SymbolValues.TheVariants.{One}
 use Rattle.elf_read_spec.proofs.Functions.{entry_has_size, entry_is_first, first_named}
 use Rattle.code_reach_spec.specs.Code.{Reaches, itself, further}
 use Rattle.code_reach_spec.specs.Faults.{ReachesNoFault, IsReachFault, of_function, overlap}
-use Rattle.call_graph.specs.Graph.{Grows}
+use Rattle.pair_setup_calls.specs.Graph.{Grows}
 use Rattle.code_reach.specs.Found.{IsReach}
 use Rattle.pair_setup_spec.specs.Code.{HasSoundCode, IsSoundCode, of_reach}
 use Rattle.pair_setup_spec.specs.Outcome.{IsReached}

@@ -3,8 +3,8 @@ use Rattle.std.proofs.Common.{◌≡◌, ◌∙◌, ℕ, List, sym, ap, subst, t
 use Rattle.std.specs.Prelude.{Bool, true, false, Contains, get_or, Some, None, IsSome, slice_get}
 use Rattle.c_types_spec.specs.Core.{Body, Typed}
 use Rattle.pair_setup_spec.specs.SourceReach.{body_of}
-use Rattle.call_graph.specs.Graph.{Grows}
-use Rattle.call_graph.proofs.Growing.{grows-as, grows-kept}
+use Rattle.pair_setup_calls.specs.Graph.{Grows}
+use Rattle.pair_setup_calls.proofs.Growing.{grows-as, grows-kept}
 use Rattle.pair_setup_calls.specs.Names.{IsNumber}
 use Rattle.pair_setup.specs.Names.{LacksBodyAt, NamesMarked, IsMarked, IsOf}
 use Rattle.pair_setup.proofs.Added.{some-of}

@@ -21,7 +21,7 @@ use Rattle.tv_limits.specs.declared.TheConstants.{MAX_NODES}
 use Rattle.pair_setup_spec.specs.Nodes.{IsLargeCode}
 use Rattle.pair_setup.specs.Sizes.{AnyLargeCode, AnyLargeSource, IsLargeAt}
 use Rattle.pair_setup.specs.Graphs.{AreCodeIf, AreSmallIf}
-use Rattle.call_graph.proofs.Cycles.{NoneBelow, none-all}
+use Rattle.pair_setup_calls.proofs.Cycles.{NoneBelow, none-all}
 use Rattle.pair_setup.proofs.Added.{some-of}
 use Rattle.c_graph_laws.proofs.Lengths.{graph_long}
 

@@ -12,7 +12,7 @@ use Rattle.pair_setup_spec.specs.SourceReach as source
 use Rattle.pair_setup_spec.specs.SourceReach.{body_of}
 use Rattle.pair_setup_spec.specs.Faults.{LacksBody, IsMisplaced, IsFirstOf, function_names, global_names, HasNames, HasNameFault, no_source, misplaced_global}
 use Rattle.pair_setup_spec.specs.declared.PairKind.TheVariants.{NoSource, ObjectSize}
-use Rattle.call_graph.specs.Graph.{Reaches}
+use Rattle.pair_setup_calls.specs.Graph.{Reaches}
 use Rattle.pair_setup_calls.specs.Names.{IsNumber, IsCallGraph}
 use Rattle.pair_setup_calls.proofs.Declared.{Splits}
 use Rattle.pair_setup_calls.proofs.Sources.{AreDeclared, one-name, reaches-there, reaches-at, reaches-back}

@@ -9,7 +9,7 @@ use Rattle.c_types_spec.specs.Core.{Typed}
 use Rattle.c_types_spec.specs.HasType.{IsTypedUnit}
 use Rattle.pair_setup_spec.specs.SourceReach as source
 use Rattle.pair_setup_spec.specs.Faults.{HasNames, no_symbol}
-use Rattle.call_graph.specs.Graph.{Reaches, Grows, IsClosed}
+use Rattle.pair_setup_calls.specs.Graph.{Reaches, Grows, IsClosed}
 use Rattle.pair_setup_calls.specs.Names.{IsCallGraph}
 use Rattle.pair_setup_calls.proofs.Sources.{reaches-there, reaches-back}
 use Rattle.pair_setup.specs.Globals.{AreMisplaced}

@@ -12,7 +12,7 @@ use Rattle.code_reach_spec.specs.Code.{IsStack}
 use Rattle.c_token_spec.specs.Words.{entry_of}
 use Rattle.c_types_spec.specs.Core.{Body, Typed}
 use Rattle.c_types_spec.specs.HasType.{IsTypedUnit}
-use Rattle.call_graph.specs.Graph.{IsCyclic}
+use Rattle.pair_setup_calls.specs.Graph.{IsCyclic}
 use Rattle.pair_setup_calls.specs.Names.{IsCallGraph}
 use Rattle.pair_setup_calls.proofs.Sources.{cyclic-there, cyclic-back}
 use Rattle.tv_limits.specs.declared.TheConstants.{MAX_STACK}

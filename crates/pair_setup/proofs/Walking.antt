@@ -8,7 +8,7 @@ use Rattle.std.proofs.lemmas.List.Sorted.{Contains-permutation, IsPermutation-sy
 use Rattle.elf_read_spec.specs.Image.{Image, size_at}
 use Rattle.code_reach_spec.specs.Code.{CallsOn, Reaches, itself, further}
 use Rattle.code_reach_spec.specs.Faults.{IsFunctionFault, ReachesNoFault, of_function, overlap}
-use Rattle.call_graph.specs.Graph.{Grows}
+use Rattle.pair_setup_calls.specs.Graph.{Grows}
 use Rattle.pair_setup_spec.specs.Outcome.{IsReached}
 use Rattle.pair_setup.specs.Codes.{AreSound}
 use Rattle.pair_setup.specs.Names.{IsOf}

@@ -3,7 +3,7 @@ use Rattle.std.specs.Prelude.{◌≡◌, ◌⊎◌, ◌≤◌, ℕ, Bool, true, 
 use Rattle.elf_read_spec.specs.Image.{Image}
 use Rattle.c_token_spec.specs.Words.{entry_of}
 use Rattle.c_types_spec.specs.Core.{Body, Typed}
-use Rattle.call_graph.specs.Graph.{IsClosed}
+use Rattle.pair_setup_calls.specs.Graph.{IsClosed}
 use Rattle.pair_setup_calls.specs.Names.{IsNumber}
 use Rattle.pair_setup_spec.specs.SourceReach.{Reaches, body_of}
 use Rattle.pair_setup_spec.specs.declared.PairKind.TheVariants.{NoSource, NoSymbol, ObjectSize}

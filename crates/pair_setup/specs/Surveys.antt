@@ -2,7 +2,7 @@
 use Rattle.std.specs.Prelude.{◌≡◌, ℕ, List, get_or, Option, Some, None}
 use Rattle.elf_read_spec.specs.Image.{Image}
 use Rattle.c_types_spec.specs.Core.{Typed}
-use Rattle.call_graph.specs.Graph.{IsCyclic, graph_of}
+use Rattle.pair_setup_calls.specs.Graph.{IsCyclic, graph_of}
 use Rattle.pair_setup_calls.specs.Names.{AreApart, IsCallGraph}
 use Rattle.pair_setup.specs.Globals.{AreMisplaced}
 use Rattle.pair_setup.specs.declared.survey.Survey.{Survey}

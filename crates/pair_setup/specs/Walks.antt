@@ -4,7 +4,7 @@ use Rattle.elf_read_spec.specs.Image.{Image, function_named, size_at}
 use Rattle.elf_read_spec.specs.declared.SymbolValues.TheVariants.{One}
 use Rattle.code_reach_spec.specs.Code.{CallsOn, Reaches}
 use Rattle.code_reach_spec.specs.Faults.{HasNoFault}
-use Rattle.call_graph.specs.Graph.{Grows}
+use Rattle.pair_setup_calls.specs.Graph.{Grows}
 use Rattle.pair_setup_spec.specs.Outcome.{IsReached}
 use Rattle.pair_setup.specs.Calling.{AreSteps}
 use Rattle.pair_setup.specs.Codes.{AreSound}

@@ -4,7 +4,7 @@ ghost use Rattle.std.specs.Prelude.{◌≡◌, ◌≢◌, [], All, Contains, IfE
 ghost use Rattle.std.specs.Prelude.{◌↔◌};
 ghost use Rattle.elf_read_spec.specs.Image.{function_named, size_at};
 ghost use Rattle.elf_read_spec.specs.declared.SymbolValues.TheVariants.{Absent};
-ghost use Rattle.call_graph.specs.Graph.{Grows};
+ghost use Rattle.pair_setup_calls.specs.Graph.{Grows};
 ghost use Rattle.code_reach.specs.Found.{IsReachError};
 ghost use Rattle.pair_setup_calls.specs.Names.{texts_of};
 ghost use Rattle.pair_setup.specs.Codes.{AddsNamed, AddsSound, AreCoded, AreSound};

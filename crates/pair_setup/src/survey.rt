@@ -8,9 +8,8 @@ ghost use Rattle.pair_setup.specs.Surveys.{IsSurvey};
 use crate::globals::misplaced_globals;
 use attempt::attempt;
 use c_types::typed::Typed;
-use call_graph::depths;
 use elf_read::Image;
-use pair_setup_calls::call_graph;
+use pair_setup_calls::{call_graph, depths};
 use std::alloc::{AllocError, Global};
 
 /// What is known of the names of the file scope, by their numbers.

@@ -2,7 +2,7 @@
 
 ghost use Rattle.std.specs.Prelude.{◌≡◌, ◌+◌, [], unwrap_or, IfOk, IsTrue, OnOk};
 ghost use Rattle.elf_read_spec.specs.Image.{size_at};
-ghost use Rattle.call_graph.specs.Graph.{Grows};
+ghost use Rattle.pair_setup_calls.specs.Graph.{Grows};
 ghost use Rattle.pair_setup_calls.specs.Names.{texts_of};
 ghost use Rattle.pair_setup.specs.Names.{IsOf};
 ghost use Rattle.pair_setup.specs.Walks.{AreApart, AreSoundOf, IsCalled, IsEntry, IsVisited};

@@ -7,8 +7,8 @@ use Rattle.std.proofs.lemmas.List.Elements.{Contains-append_left, Contains-appen
 use Rattle.std.proofs.lemmas.Option.{slice_get_within}
 use Rattle.c_types_spec.specs.Core as tree
 use Rattle.pair_setup_spec.specs.SourceReach.{calls_in, body_of, CallsOn}
-use Rattle.call_graph.specs.Graph.{Grows, called_by}
-use Rattle.call_graph.proofs.Growing.{grows-as, grows-then, grows-kept}
+use Rattle.pair_setup_calls.specs.Graph.{Grows, called_by}
+use Rattle.pair_setup_calls.proofs.Growing.{grows-as, grows-then, grows-kept}
 use Rattle.pair_setup_calls.specs.Names.{IsNumber, HasNumberAmong, AreCalled, IsCallGraph}
 
 none_contained : {X : Type 0} (t : X) → Contains [] t → ⊥

@@ -4,7 +4,7 @@ use Rattle.std.specs.Prelude.{Contains}
 use Rattle.c_types_spec.specs.Core as tree
 use Rattle.pair_setup_spec.specs.SourceReach as source
 use Rattle.pair_setup_spec.specs.SourceReach.{CallsOn}
-use Rattle.call_graph.specs.Graph.{Calls, Reaches, itself, further, IsCyclic}
+use Rattle.pair_setup_calls.specs.Graph.{Calls, Reaches, itself, further, IsCyclic}
 use Rattle.pair_setup_calls.specs.Names.{IsNumber, IsCallGraph}
 
 pub one-name : (names : List (List ℕ)) (number : ℕ) (a b : List ℕ) → IsNumber names number a → IsNumber names number b → a ≡ b

@@ -11,7 +11,7 @@ use Rattle.c_types_core.specs.declared.action.Action.{Action}
 use Rattle.c_types_core.specs.declared.action.Group.{Group}
 use Rattle.c_types.specs.declared.typed.Typed.{Typed}
 use Rattle.pair_setup_spec.specs.SourceReach.{CallsOn}
-use Rattle.call_graph.specs.Graph.{called_by}
+use Rattle.pair_setup_calls.specs.Graph.{called_by}
 
 -- ---- lists of the program
 

@@ -1,7 +1,7 @@
 //! The graph of calls of a unit.
 
 ghost use Rattle.std.specs.Prelude.{◌≡◌, IfOk, OnOk, []};
-ghost use Rattle.call_graph.specs.Graph.{Grows, graph_of};
+ghost use Rattle.pair_setup_calls.specs.Graph.{Grows, graph_of};
 ghost use Rattle.c_types_core.specs.Actions.{action_of};
 ghost use Rattle.c_types.specs.Typed.{typed_of};
 ghost use Rattle.pair_setup_spec.specs.SourceReach.{calls_in};

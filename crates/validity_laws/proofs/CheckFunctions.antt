@@ -1,12 +1,8 @@
 -- A function whose frame has a proof by Leaf and Case, each obligation of which is closed, is proved, and valid.
-use Rattle.std.proofs.Common.{◌≡◌, ◌∙◌, ℕ, zero, suc, ◌+◌, ◌^◌, ◌<◌, ◌≤◌, List, [], ◌∷◌, ◌++◌, map, get_or, refl, sym, ap, subst, arith, append_assoc, append-nil}
-use Rattle.std.specs.Prelude.{All, Contains}
-use Rattle.std.proofs.lemmas.List.{get_or_default}
-use Rattle.std.proofs.lemmas.List.Elements.{All-nil, All-cons, All-append, All-head, All-tail, All-contains}
-use Rattle.elf_read_spec.specs.Image.{function_named}
-use Rattle.elf_read_spec.specs.declared.SymbolValues.TheVariants.{One}
+use Rattle.std.proofs.Common.{◌≡◌, ◌∙◌, ℕ, ◌^◌, ◌<◌, ◌≤◌, List, [], ◌∷◌, get_or, refl, sym, ap, subst, arith}
+use Rattle.std.specs.Prelude.{All}
+use Rattle.std.proofs.lemmas.List.Elements.{All-nil, All-cons, All-append}
 use Rattle.elf_read_spec.proofs.Runs.{runs_are_fixed, runs_have_bytes}
-use Rattle.code_reach_spec.specs.Code.{IsStack}
 use Rattle.term_core_spec.specs.declared.Family.{Family}
 use Rattle.term_core_spec.specs.declared.Family.TheVariants as family
 use Rattle.term_core_spec.specs.declared.Variable.{Variable}
@@ -17,12 +13,11 @@ use Rattle.graph_core_spec.specs.declared.Mark.{Mark}
 use Rattle.proof_tree_spec.specs.Scope.{Setting, InFamily, IsLine}
 use Rattle.proof_tree_spec.specs.Frames.{Start, Goal, Frame, with_premise}
 use Rattle.sim_rules_spec.specs.Rules.{AreOfLeaf, AreTrueWith}
-use Rattle.validity_spec.specs.Claim.{IsValid}
 use Rattle.agreement_laws.specs.EntryFrame.{Pair, entry_frame, entry_opening, scope_of}
 use Rattle.agreement_laws.specs.Statements.{IsPair}
 use Rattle.agreement_laws.specs.Callers.{frame_of}
 use Rattle.agreement_laws.proofs.Pairs.{runs_are}
-use Rattle.validity_laws.specs.Derivation.{Function, pair_for, AtEntry, no_zone, stated, IsProved, AreSides, IsFunction, IsProvedFunction, AreProved, none, one_more}
+use Rattle.validity_laws.specs.Derivation.{Function, pair_for, AtEntry, no_zone, stated, IsProved, AreSides, IsFunction, IsProvedFunction, none, one_more}
 use Rattle.validity_laws.specs.Derivation as derivation
 use Rattle.validity_laws.proofs.Functions.{is_pair, functions_valid}
 use Rattle.cert_check_lines_spec.specs.LineRules.{with_test}

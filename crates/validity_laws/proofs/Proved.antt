@@ -1,5 +1,5 @@
 -- A certificate that is a proof shows that its functions are valid.
-use Rattle.std.proofs.Common.{◌≡◌, ◌∙◌, ℕ, true, false, List, [], ◌∷◌, ◌++◌, map, refl, sym, ap, subst, append_assoc}
+use Rattle.std.proofs.Common.{◌≡◌, true, List, [], ◌∷◌, ◌++◌, map, refl, sym, ap, subst, append_assoc}
 use Rattle.std.specs.Prelude.{All}
 use Rattle.std.proofs.lemmas.List.Elements.{All-nil, All-cons, All-head, All-tail}
 use Rattle.cert_text_spec.specs.Derivation as derivation
@@ -8,7 +8,7 @@ use Rattle.cert_text_spec.specs.Lines.{Line, Header, Function as Begin, InlineBi
 use Rattle.cert_text_spec.specs.Certificates.{Expected, AHeader, TheParts, BinaryInlines, Fits, after, can_stand}
 use Rattle.agreement_laws.specs.EntryFrame.{Pair}
 use Rattle.cert_check_spec.specs.Verdict.{Listed}
-use Rattle.cert_check_lines_spec.specs.Parts.{Member, Between, AreAccepted, IsPlainLine}
+use Rattle.cert_check_lines_spec.specs.Parts.{Between, AreAccepted, IsPlainLine}
 use Rattle.cert_check_lines_spec.specs.Known.{is_known, AreMembersOf}
 use Rattle.cert_check_lines_spec.proofs.Members as alone
 use Rattle.cert_check_lines_spec.proofs.Members.{no_functions}

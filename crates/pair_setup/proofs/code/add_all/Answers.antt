@@ -1,5 +1,5 @@
 use Rattle.std.proofs.Common.{get_or, refl, arith}
-use Rattle.call_graph.proofs.Growing.{among-none, among-more, among-all}
+use Rattle.pair_setup_calls.proofs.Growing.{among-none, among-more, among-all}
 use Rattle.pair_setup.proofs.code.add_all.Goals as goal
 
 pub loop-entry-init : goal.loop-entry-init

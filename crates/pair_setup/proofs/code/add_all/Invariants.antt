@@ -1,5 +1,5 @@
-use Rattle.call_graph.specs.Graph.{Grows}
-use Rattle.call_graph.proofs.Growing.{IsAmong}
+use Rattle.pair_setup_calls.specs.Graph.{Grows}
+use Rattle.pair_setup_calls.proofs.Growing.{IsAmong}
 use Rattle.pair_setup.proofs.code.add_all.Given as goal
 
 abbrev pub invariant-loop-entry : goal.invariant-loop-entry

@@ -1,6 +1,6 @@
 use Rattle.std.proofs.Common.{◌≡◌, sym, subst}
-use Rattle.call_graph.specs.Graph.{Grows}
-use Rattle.call_graph.proofs.Growing.{grows-push}
+use Rattle.pair_setup_calls.specs.Graph.{Grows}
+use Rattle.pair_setup_calls.proofs.Growing.{grows-push}
 use Rattle.pair_setup.proofs.names.add.Goals as goal
 
 pub returns : goal.returns

@@ -1,5 +1,5 @@
 use Rattle.std.proofs.Common.{◌≡◌, ◌∙◌, sym}
-use Rattle.call_graph.specs.Graph.{Grows}
+use Rattle.pair_setup_calls.specs.Graph.{Grows}
 use Rattle.pair_setup.specs.Names.{IsMarked}
 use Rattle.pair_setup.proofs.Added.{on-ok}
 use Rattle.pair_setup.proofs.Lacking.{marked-add, unmarked-kept}

@@ -1,6 +1,6 @@
 use Rattle.std.proofs.Common.{List, ℕ, take, get_or, sym, subst, arith}
 use Rattle.std.proofs.lemmas.List.{take_more, take_all}
-use Rattle.call_graph.specs.Graph.{Grows}
+use Rattle.pair_setup_calls.specs.Graph.{Grows}
 use Rattle.c_types.specs.Typed.{typed_of}
 use Rattle.pair_setup_calls.specs.Names.{names_of}
 use Rattle.pair_setup.specs.Names.{IsUsedMarked, NamesMarked}

@@ -1,5 +1,5 @@
 use Rattle.std.proofs.Common.{take}
-use Rattle.call_graph.specs.Graph.{Grows}
+use Rattle.pair_setup_calls.specs.Graph.{Grows}
 use Rattle.c_types.specs.Typed.{typed_of}
 use Rattle.pair_setup_calls.specs.Names.{names_of}
 use Rattle.pair_setup.specs.Names.{IsUsedMarked}

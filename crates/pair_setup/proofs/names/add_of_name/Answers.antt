@@ -1,5 +1,5 @@
 use Rattle.std.proofs.Common.{◌≡◌}
-use Rattle.call_graph.specs.Graph.{Grows}
+use Rattle.pair_setup_calls.specs.Graph.{Grows}
 use Rattle.pair_setup_calls.specs.Names.{IsNumber, names_of}
 use Rattle.pair_setup.specs.Names.{IsMarked}
 use Rattle.pair_setup.proofs.Added.{on-ok}

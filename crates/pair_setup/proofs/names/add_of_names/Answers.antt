@@ -1,6 +1,6 @@
 use Rattle.std.proofs.Common.{◌≤◌, List, ℕ, Bor, take, get_or, sym, subst, arith, []}
 use Rattle.std.proofs.lemmas.List.{take_all, length-map}
-use Rattle.call_graph.specs.Graph.{Grows}
+use Rattle.pair_setup_calls.specs.Graph.{Grows}
 use Rattle.pair_setup_calls.specs.Names.{IsNumber, names_of, texts_of}
 use Rattle.pair_setup.specs.Names.{IsMarked, IsOf}
 use Rattle.pair_setup.proofs.Added.{of-none, of-more}

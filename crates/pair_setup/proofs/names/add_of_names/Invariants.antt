@@ -1,5 +1,5 @@
 use Rattle.std.proofs.Common.{List, ℕ, take}
-use Rattle.call_graph.specs.Graph.{Grows}
+use Rattle.pair_setup_calls.specs.Graph.{Grows}
 use Rattle.pair_setup_calls.specs.Names.{IsNumber, names_of, texts_of}
 use Rattle.pair_setup.specs.Names.{IsMarked, IsOf}
 use Rattle.pair_setup.proofs.names.add_of_names.Given as goal

@@ -1,6 +1,6 @@
 use Rattle.std.proofs.Common.{◌∙◌, drop, ap, sym, subst}
 use Rattle.std.specs.Prelude.{OnOk, IfErr}
-use Rattle.call_graph.specs.Graph.{graph_of, Grows, IsClosed, Reaches}
+use Rattle.pair_setup_calls.specs.Graph.{graph_of, Grows, IsClosed, Reaches}
 use Rattle.c_types.specs.Typed.{typed_of}
 use Rattle.pair_setup_calls.specs.Names.{names_of}
 use Rattle.pair_setup.specs.Names.{IsPassed, IsNameError, IsLeast, IsUsedMarked}

@@ -1,6 +1,6 @@
 use Rattle.std.proofs.Common.{◌≤◌, List, ℕ, Bor, [], take, get_or, sym, subst, arith}
 use Rattle.std.proofs.lemmas.List.{take_all, length-map}
-use Rattle.call_graph.specs.Graph.{graph_of}
+use Rattle.pair_setup_calls.specs.Graph.{graph_of}
 use Rattle.c_types.specs.Typed.{typed_of}
 use Rattle.pair_setup_calls.specs.Names.{names_of, texts_of}
 use Rattle.pair_setup.specs.Names.{ArePassed}

@@ -1,5 +1,5 @@
 use Rattle.std.proofs.Common.{◌+◌, Some, sym, subst, arith}
-use Rattle.call_graph.proofs.Growing.{IsAmong}
+use Rattle.pair_setup_calls.proofs.Growing.{IsAmong}
 use Rattle.pair_setup.specs.Names.{IsLeast}
 use Rattle.pair_setup.proofs.Least.{least-none, least-more, least-all}
 use Rattle.pair_setup.proofs.names.first_of.Goals as goal

@@ -1,4 +1,4 @@
-use Rattle.call_graph.proofs.Growing.{IsAmong}
+use Rattle.pair_setup_calls.proofs.Growing.{IsAmong}
 use Rattle.pair_setup.specs.Names.{IsLeast}
 use Rattle.pair_setup.proofs.names.first_of.Given as goal
 

@@ -7,7 +7,7 @@ use Rattle.graph_core_spec.specs.Graph.{Graph}
 use Rattle.graph_core.specs.declared.graph.Graph as code
 use Rattle.graph_core.specs.Graphs.{graph_of, graphs_of}
 use Rattle.pair_setup_spec.specs.Nodes.{IsLargeCode}
-use Rattle.call_graph.proofs.Cycles.{none-more}
+use Rattle.pair_setup_calls.proofs.Cycles.{none-more}
 use Rattle.pair_setup.specs.Graphs.{AreCodeOf, IsSmallCode, IsSound}
 use Rattle.pair_setup.proofs.Coded.{none_coded, one_coded}
 use Rattle.pair_setup.proofs.Large.{any-code, no-code}

@@ -1,6 +1,6 @@
 use Rattle.std.proofs.Common.{List, ℕ}
 use Rattle.graph_core.specs.Graphs.{graphs_of}
-use Rattle.call_graph.proofs.Cycles.{NoneBelow}
+use Rattle.pair_setup_calls.proofs.Cycles.{NoneBelow}
 use Rattle.pair_setup_spec.specs.Nodes.{IsLargeCode}
 use Rattle.pair_setup.specs.Graphs.{AreCodeOf}
 use Rattle.pair_setup.proofs.nodes.add_code.Given as goal

@@ -2,7 +2,7 @@ use Rattle.std.proofs.Common.{◌∙◌, get_or, refl, sym, true≢false, arith}
 use Rattle.c_types.specs.Typed.{typed_of}
 use Rattle.pair_setup_calls.specs.Names.{names_of}
 use Rattle.pair_setup.specs.Sizes.{IsLargeAt}
-use Rattle.call_graph.proofs.Cycles.{none-more}
+use Rattle.pair_setup_calls.proofs.Cycles.{none-more}
 use Rattle.pair_setup.proofs.Large.{any-source, no-source}
 use Rattle.pair_setup.proofs.nodes.any_large_source.Goals as goal
 

@@ -1,5 +1,5 @@
 use Rattle.std.proofs.Common.{◌∙◌, length, get_or, ap, sym, subst}
-use Rattle.call_graph.specs.Graph.{graph_of}
+use Rattle.pair_setup_calls.specs.Graph.{graph_of}
 use Rattle.c_types.specs.Typed.{typed_of}
 use Rattle.pair_setup_calls.specs.Names.{names_of, texts_of}
 use Rattle.pair_setup_spec.specs.Code.{HasSoundCode}

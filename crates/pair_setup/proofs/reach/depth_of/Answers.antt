@@ -2,7 +2,7 @@ use Rattle.std.proofs.Common.{◌∙◌, sym, subst, true≢false}
 use Rattle.std.specs.Prelude.{IfSome}
 use Rattle.code_reach_spec.specs.Code as code
 use Rattle.code_reach.specs.Found.{IsDepth}
-use Rattle.call_graph.specs.Graph.{graph_of, IsCyclic}
+use Rattle.pair_setup_calls.specs.Graph.{graph_of, IsCyclic}
 use Rattle.c_types.specs.Typed.{typed_of}
 use Rattle.pair_setup_calls.specs.Names.{names_of}
 use Rattle.pair_setup.specs.Depths.{IsDepthOf}

@@ -1,5 +1,5 @@
 use Rattle.std.proofs.Common.{subst}
-use Rattle.call_graph.specs.Graph.{graph_of}
+use Rattle.pair_setup_calls.specs.Graph.{graph_of}
 use Rattle.pair_setup.specs.Surveys.{AreAcyclic}
 use Rattle.pair_setup.proofs.survey.surveyed.Goals as goal
 

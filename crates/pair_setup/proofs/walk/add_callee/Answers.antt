@@ -1,6 +1,6 @@
 use Rattle.std.proofs.Common.{◌≡◌, ◌∙◌, Some, sym, ap}
-use Rattle.call_graph.specs.Graph.{Grows}
-use Rattle.call_graph.proofs.Growing.{grows-as, grows-kept}
+use Rattle.pair_setup_calls.specs.Graph.{Grows}
+use Rattle.pair_setup_calls.proofs.Growing.{grows-as, grows-kept}
 use Rattle.pair_setup.specs.Walks.{IsCalled}
 use Rattle.pair_setup.proofs.Added.{on-ok}
 use Rattle.pair_setup.proofs.walk.add_callee.Goals as goal

@@ -1,7 +1,7 @@
 use Rattle.std.proofs.Common.{List, take, get_or, None, sym, subst, arith}
 use Rattle.pair_setup.specs.declared.calling.Step.{Step}
 use Rattle.std.proofs.lemmas.List.{take_more, take_all}
-use Rattle.call_graph.specs.Graph.{Grows}
+use Rattle.pair_setup_calls.specs.Graph.{Grows}
 use Rattle.pair_setup.specs.Names.{IsOf}
 use Rattle.pair_setup.specs.Walks.{IsCalled}
 use Rattle.pair_setup.proofs.Added.{of-none, of-more}

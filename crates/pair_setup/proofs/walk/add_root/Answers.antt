@@ -1,8 +1,8 @@
 use Rattle.std.proofs.Common.{◌≡◌, ◌∙◌, sym, ap}
 use Rattle.elf_read_spec.specs.Image.{function_named}
 use Rattle.elf_read_spec.specs.declared.SymbolValues.TheVariants.{One}
-use Rattle.call_graph.specs.Graph.{Grows}
-use Rattle.call_graph.proofs.Growing.{grows-as, grows-kept}
+use Rattle.pair_setup_calls.specs.Graph.{Grows}
+use Rattle.pair_setup_calls.proofs.Growing.{grows-as, grows-kept}
 use Rattle.pair_setup.specs.Walks.{IsEntry}
 use Rattle.pair_setup.proofs.Added.{on-ok}
 use Rattle.pair_setup.proofs.walk.add_root.Goals as goal

@@ -1,5 +1,5 @@
 use Rattle.std.proofs.Common.{ℕ, List, sym, subst, true≢false}
-use Rattle.call_graph.specs.Graph.{Grows}
+use Rattle.pair_setup_calls.specs.Graph.{Grows}
 use Rattle.pair_setup_calls.specs.Names.{texts_of}
 use Rattle.pair_setup.specs.Names.{IsOf}
 use Rattle.pair_setup.specs.Walks.{IsEntry, AreApart}

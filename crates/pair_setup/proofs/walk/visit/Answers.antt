@@ -2,7 +2,7 @@ use Rattle.std.proofs.Common.{List, sym, subst, true≢false}
 use Rattle.std.specs.Prelude.{IfSome}
 use Rattle.pair_setup.specs.Calling.{AreSteps}
 use Rattle.pair_setup.specs.declared.calling.Step.{Step}
-use Rattle.call_graph.specs.Graph.{Grows}
+use Rattle.pair_setup_calls.specs.Graph.{Grows}
 use Rattle.pair_setup.specs.Names.{IsOf}
 use Rattle.pair_setup.specs.Walks.{IsCalled}
 use Rattle.pair_setup.proofs.walk.visit.Goals as goal

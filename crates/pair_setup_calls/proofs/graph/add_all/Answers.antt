@@ -2,7 +2,7 @@ use Rattle.std.proofs.Common.{◌≡◌, ◌∙◌, ◌+◌, ◌≤◌, ◌++◌
 use Rattle.std.specs.Prelude.{Vec}
 use Rattle.std.specs.declared.alloc.Global.{Global}
 use Rattle.std.proofs.lemmas.List.{map-append, length-map}
-use Rattle.call_graph.specs.Graph.{graph_of}
+use Rattle.pair_setup_calls.specs.Graph.{graph_of}
 use Rattle.c_types.specs.Typed.{typed_of}
 use Rattle.c_types_scope.specs.declared.meaning.Meaning.{Meaning}
 use Rattle.pair_setup_calls.specs.Names.{names_of}

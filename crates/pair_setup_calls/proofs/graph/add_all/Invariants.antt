@@ -1,4 +1,4 @@
-use Rattle.call_graph.specs.Graph.{graph_of}
+use Rattle.pair_setup_calls.specs.Graph.{graph_of}
 use Rattle.c_types.specs.Typed.{typed_of}
 use Rattle.pair_setup_calls.specs.Names.{names_of}
 use Rattle.pair_setup_calls.proofs.Bodies.{IsGraphBelow}

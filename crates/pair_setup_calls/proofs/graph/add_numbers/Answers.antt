@@ -1,6 +1,6 @@
 use Rattle.std.proofs.Common.{◌≡◌, ◌+◌, ◌++◌, ◌∷◌, [], List, ℕ, Bor, take, get_or, sym, ap, subst, ◌∙◌}
 use Rattle.std.proofs.lemmas.List.{map-append, take_more}
-use Rattle.call_graph.specs.Graph.{Grows}
+use Rattle.pair_setup_calls.specs.Graph.{Grows}
 use Rattle.pair_setup_calls.specs.Names.{HasNumberAmong, names_of, texts_of}
 use Rattle.pair_setup_calls.proofs.Bodies.{numbers-more}
 use Rattle.pair_setup_calls.proofs.graph.add_numbers.Goals as goal

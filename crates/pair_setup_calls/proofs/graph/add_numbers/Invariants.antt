@@ -1,5 +1,5 @@
 use Rattle.std.proofs.Common.{take}
-use Rattle.call_graph.specs.Graph.{Grows}
+use Rattle.pair_setup_calls.specs.Graph.{Grows}
 use Rattle.pair_setup_calls.specs.Names.{HasNumberAmong, names_of, texts_of}
 use Rattle.pair_setup_calls.proofs.graph.add_numbers.Given as goal
 

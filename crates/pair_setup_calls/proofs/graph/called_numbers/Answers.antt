@@ -1,6 +1,6 @@
 use Rattle.std.proofs.Common.{[], refl, sym}
 use Rattle.std.specs.Prelude.{slice_get}
-use Rattle.call_graph.specs.Graph.{Grows}
+use Rattle.pair_setup_calls.specs.Graph.{Grows}
 use Rattle.c_types_core.specs.Actions.{action_of}
 use Rattle.c_types.specs.Typed.{typed_of, body_of_name}
 use Rattle.pair_setup_spec.specs.SourceReach.{calls_in}

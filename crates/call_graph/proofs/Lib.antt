@@ -1,5 +1,0 @@
-pub mod Growing
-mod Extending
-pub mod Cycles
-mod Deepest
-mod Complete

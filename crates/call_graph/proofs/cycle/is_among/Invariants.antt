@@ -1,6 +1,0 @@
-use Rattle.std.proofs.Common.{◌≡◌}
-use Rattle.call_graph.proofs.Cycles.{NoneBelow}
-use Rattle.call_graph.proofs.cycle.is_among.Given as goal
-
-abbrev pub invariant-loop-other : goal.invariant-loop-other
-invariant-loop-other l = NoneBelow (λ t. t ≡ l.node) l.nodes l.other-index

@@ -1,8 +1,0 @@
-use Rattle.std.proofs.Common.{◌≡◌, sym, subst}
-use Rattle.call_graph.specs.Graph.{Grows}
-use Rattle.call_graph.proofs.Growing.{grows-insert}
-use Rattle.call_graph.proofs.reaching.add.Goals as goal
-
-pub returns : goal.returns
-returns c =
-    subst (λ z. Grows (λ t. t ≡ c.args.node) c.args.nodes.now.keys z) (sym c.in_ok-insert.ensures.keys) (grows-insert c.args.nodes.now.keys c.args.node)

@@ -1,5 +1,0 @@
-use Rattle.graph_inline_laws.proofs.Worked.{both}
-use Rattle.graph_inline_laws.proofs.examples.both_calls_can_be_inlined.Goals as goal
-
-pub returns : goal.returns
-returns c = both
