@@ -5,6 +5,7 @@ use Rattle.term_core_spec.specs.declared.Sort.{Sort}
 use Rattle.term_core_spec.specs.declared.Variable.{Variable}
 use Rattle.graph_core_spec.specs.Graph.{Binding, Call, Graph, node_at}
 use Rattle.graph_inline_spec.specs.Inlined.{inlined, inlined_size}
+use Rattle.graph_inline_spec.specs.Beside.{beside, own_number}
 use Rattle.proof_tree_spec.specs.declared.Place.{Place}
 use Rattle.proof_tree_spec.specs.declared.Place.TheVariants as place
 use Rattle.proof_tree_spec.specs.Proofs.{BinaryPoint, SourcePoint}
@@ -72,9 +73,9 @@ unfolded f = record {
   instance = 2;
 }
 
--- a graph of the part's own, after those of the set: calls go on to the set's
-abbrev pub beside : Side → Graph → Side
-beside own g = record { graphs = own.graphs ++ g ∷ []; outermost = length own.graphs }
+-- a graph of the part's own, beside those of the set: calls go on to the set's
+abbrev pub beside_side : Side → Graph → Side
+beside_side set own = record { graphs = beside set.graphs own; outermost = own_number set.graphs }
 
 -- the node of the side is a call of the graph of this number
 pub record CallsThere (side : Side) (node number : ℕ) : Type 0 where
@@ -98,7 +99,7 @@ pub record IsCodeCall (fs : Functions) (u : Unfolded) (point : BinaryPoint) (nod
 -- with its graph inlined there
 abbrev pub with_code : Member → Unfolded → BinaryPoint → CodeFunction → Graph → Unfolded
 with_code f u point callee new = record u {
-  frame = record u.frame { binary = beside f.listed.frame.binary new };
+  frame = record u.frame { binary = beside_side f.listed.frame.binary new };
   code = u.code ++ record { path = point.path ++ point.address ∷ []; offset = length (graph_at u.frame.binary).nodes; first = callee.first; call = callee.call } ∷ [];
   instance = suc u.instance;
 }
@@ -122,7 +123,7 @@ with_body s b = record s { bodies = s.bodies ++ b ∷ [] }
 abbrev pub with_source : Member → Unfolded → (path : List ℕ) → (call : ℕ) → SourceFunction → Graph → Unfolded
 with_source f u path call callee new = record u {
   frame = record u.frame {
-    source = beside f.listed.frame.source new;
+    source = beside_side f.listed.frame.source new;
     setting = with_body u.frame.setting (record { path = path ++ call ∷ []; instance = u.instance; locals = callee.locals });
   };
   source = u.source ++ record { path = path ++ call ∷ []; offset = length (graph_at u.frame.source).nodes; node = callee.node } ∷ [];

@@ -3,3 +3,4 @@ pub mod Inlined
 pub mod Inlining
 pub mod Kept
 pub mod Samples
+pub mod Beside
