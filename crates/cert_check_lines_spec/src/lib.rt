@@ -4,5 +4,9 @@
 //!
 //! `specs/Sites.antt` has the nodes of points, `specs/Jobs.antt` what is expected inside a part,
 //! `specs/LineRules.antt` which lines pass, and the first rule or limit that another one breaks. No
-//! line depends on those after it. Nothing of the crate runs.
+//! line depends on those after it. Its laws ([`passing`]): lines that pass show a tree of rules,
+//! each of whose obligations is closed. Nothing of the crate runs.
 #![tactic(auto)]
+
+pub mod passing;
+pub mod samples;

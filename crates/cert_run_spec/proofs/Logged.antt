@@ -24,7 +24,7 @@ use Rattle.cert_check_lines_spec.specs.Parts.{Functions, Member, unfolded, part_
 use Rattle.cert_check_lines_spec.specs.Walk as walks
 use Rattle.cert_check_lines_spec.specs.Walk.{Progress, Going, Stopped, before_all, TakesAll}
 use Rattle.cert_check_lines_spec.specs.Known.{is_known, AreMembersOf, IsProof, IsFault}
-use Rattle.cert_check_lines_laws.proofs.Stepping.{closing_passes}
+use Rattle.cert_check_lines_spec.proofs.Stepping.{closing_passes}
 use Rattle.prove_run_spec.specs.Proofs.{HasProof, AreClosedBy}
 use Rattle.cert_run_spec.specs.Verdict.{IsOutcome, Broken, broken, proof, Part, log_lines, proof_lines, proofs_lines, written_lines, end_offset}
 use Rattle.cert_run_spec.specs.Laws.{CanWrite, LoggedIsProof, LoggedMissesOthers}

@@ -1,6 +1,6 @@
 -- What is added to a list for each item of another one.
 use Rattle.std.proofs.Common.{◌≡◌, ◌⊎◌, ℕ, ◌<◌, List, [], ◌∷◌, ◌++◌, length, get_or, inl, inr, arith, sym, subst}
-use Rattle.std.specs.Prelude.{Contains, OnOk, IfOk, IfErr, Result, Ok, Err, Option, Some, None, IsSome}
+use Rattle.std.specs.Prelude.{Contains, OnOk, IfOk, IfErr, MatchResult, Result, Ok, Err, Option, Some, None, IsSome}
 use Rattle.std.proofs.Common.{true≢false, refl}
 use Rattle.std.proofs.lemmas.List.Elements.{Contains-append_left, Contains-append_cases, Contains-push}
 use Rattle.pair_setup_calls.specs.Graph.{Grows}
@@ -16,6 +16,11 @@ on-ok (Err e) P Q f h = tt
 pub if-ok : {T E : Type 0} (r : Result T E) (P Q : T → Type 0) → ((t : T) → P t → Q t) → IfOk r P → IfOk r Q
 if-ok (Ok t) P Q f h = f t h
 if-ok (Err e) P Q f h = tt
+
+-- the same, where something is said of errors too
+pub matched-ok : {T E : Type 0} (r : Result T E) (P Q : T → Type 0) (F : E → Type 0) → ((t : T) → P t → Q t) → MatchResult r P F → IfOk r Q
+matched-ok (Ok t) P Q F f h = f t h
+matched-ok (Err e) P Q F f h = tt
 
 pub if-err : {T E : Type 0} (r : Result T E) (P Q : E → Type 0) → ((e : E) → P e → Q e) → IfErr r P → IfErr r Q
 if-err (Ok t) P Q f h = tt

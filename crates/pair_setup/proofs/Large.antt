@@ -110,7 +110,8 @@ no-source unit names numbers i all none any = none-all (IsLargeAt unit names) nu
 
 -- ---- both
 
-pub with-source : (image : Image) (unit : Typed) (names : List (List ℕ)) (numbers entries : List ℕ) (graphs : List Graph) → (AnyLargeSource unit names numbers → ⊥)
-    → (small : Bool) → AreCodeIf image entries graphs small → AreSmallIf image unit names numbers entries graphs small
-with-source image unit names numbers entries graphs none true is = (is.0, is.1, none)
-with-source image unit names numbers entries graphs none false is = inl is
+pub with-source : (image : Image) (unit : Typed) (names : List (List ℕ)) (numbers entries : List ℕ) (graphs : List Graph) (firsts : List (List (ℕ × ℕ)))
+    → (AnyLargeSource unit names numbers → ⊥) → (small : Bool) → AreCodeIf image entries graphs firsts small
+    → AreSmallIf image unit names numbers entries graphs firsts small
+with-source image unit names numbers entries graphs firsts none true is = (is.0, is.1, none)
+with-source image unit names numbers entries graphs firsts none false is = inl is

@@ -124,9 +124,9 @@ module _ (image : Image) (unit : Typed) (names list : List (List ℕ)) where
         inr (let number = c.numbers_are.all listed other among reaches in
         record { number = number.0; among = number.2; large = record { name = other; number_is = number.1; large = large } })
 
-    pub are-paired : (found : List ℕ) (graphs : List Graph) (pairs : Pairs) → list ≢ [] → AreSmall image unit names numbers entries found graphs → pairs.functions.items ≡ functions
-        → pairs.entries.items ≡ found → IsPaired image unit list (pairs_of list pairs)
-    are-paired found graphs pairs some small functions_are found_are = record {
+    pub are-paired : (found : List ℕ) (graphs : List Graph) (firsts : List (List (ℕ × ℕ))) (pairs : Pairs) → list ≢ []
+        → AreSmall image unit names numbers entries found graphs firsts → pairs.functions.items ≡ functions → pairs.entries.items ≡ found → IsPaired image unit list (pairs_of list pairs)
+    are-paired found graphs firsts pairs some small functions_are found_are = record {
       some = some;
       no_fault = no-faults nothing;
       no_large = All-from_get_or (λ (listed : List ℕ). HasLargeGraph image unit listed → ⊥) list [] (λ i below large. none (large-code (get_or list i []) (Contains-get_or list i [] below) large));

@@ -10,7 +10,7 @@ use Rattle.elf_read_spec.specs.Image.{Image}
 use Rattle.c_types_spec.specs.Core.{Typed}
 use Rattle.graph_core_spec.specs.Graph.{Graph}
 use Rattle.pair_setup.specs.Sizes.{AnyLargeCode, AnyLargeSource}
-use Rattle.pair_setup.specs.Graphs.{AreCode, AreSmallIf}
+use Rattle.pair_setup.specs.Graphs.{AreKept, AreSmallIf}
 use Rattle.pair_setup.specs.Answers.{AreSmall}
 
 pub increasing : (items : List ℕ) → IsSorted nat_cmp items → IsDistinct nat_eq items → IsStrictlyIncreasing items
@@ -27,21 +27,22 @@ module _ (image : Image) (unit : Typed) (names : List (List ℕ)) (numbers old n
   code-there : AnyLargeCode image old → AnyLargeCode image slice
   code-there any = record { entry = any.entry; among = subst (λ l. Contains l any.entry) (sym same) (Contains-permutation old new any.entry moved any.among); large = any.large }
 
-  pub large-back : (graphs : List Graph) (small : Bool) → small ≡ false → AreSmallIf image unit names numbers slice graphs small → AnyLargeCode image old ⊎ AnyLargeSource unit names numbers
-  large-back graphs true not is = absurd (true≢false not)
-  large-back graphs false not (inl code) = inl (code-back code)
-  large-back graphs false not (inr source) = inr source
+  pub large-back : (graphs : List Graph) (firsts : List (List (ℕ × ℕ))) (small : Bool) → small ≡ false → AreSmallIf image unit names numbers slice graphs firsts small
+      → AnyLargeCode image old ⊎ AnyLargeSource unit names numbers
+  large-back graphs firsts true not is = absurd (true≢false not)
+  large-back graphs firsts false not (inl code) = inl (code-back code)
+  large-back graphs firsts false not (inr source) = inr source
 
-  pub small-moved : (found : List ℕ) → found ≡ new → IsStrictlyIncreasing new → (graphs : List Graph) (small : Bool) → small ≡ true → AreSmallIf image unit names numbers slice graphs small
-      → AreSmall image unit names numbers old found graphs
-  small-moved found found_is rising graphs true not is = record {
+  pub small-moved : (found : List ℕ) → found ≡ new → IsStrictlyIncreasing new → (graphs : List Graph) (firsts : List (List (ℕ × ℕ))) (small : Bool) → small ≡ true
+      → AreSmallIf image unit names numbers slice graphs firsts small → AreSmall image unit names numbers old found graphs firsts
+  small-moved found found_is rising graphs firsts true not is = record {
     rising = subst IsStrictlyIncreasing (sym found_is) rising;
     same = λ entry. (
       λ among. Contains-permutation new old entry (IsPermutation-sym old new moved) (subst (λ l. Contains l entry) found_is among),
       λ among. subst (λ l. Contains l entry) (sym found_is) (Contains-permutation old new entry moved among),
     );
-    graphs_are = subst (λ l. AreCode image l graphs) (same ∙ sym found_is) is.0;
+    graphs_are = subst (λ l. AreKept image l graphs firsts) (same ∙ sym found_is) is.0;
     code = λ any. is.1 (code-there any);
     source = is.2;
   }
-  small-moved found found_is rising graphs false not is = absurd (true≢false (sym not))
+  small-moved found found_is rising graphs firsts false not is = absurd (true≢false (sym not))

@@ -10,7 +10,7 @@ use Rattle.pair_setup_spec.specs.Outcome as spec
 use Rattle.pair_setup_spec.specs.Outcome.{IsPairFault, IsCodeFault, IsPaired, IsReached, IsTooLarge}
 use Rattle.graph_core_spec.specs.Graph.{Graph}
 use Rattle.graph_core.specs.Graphs.{graphs_of}
-use Rattle.pair_setup.specs.Graphs.{AreCode}
+use Rattle.pair_setup.specs.Graphs.{AreCode, AreKept, firsts_of}
 use Rattle.pair_setup.specs.Names.{AreReachedNumbers}
 use Rattle.pair_setup.specs.Depths.{AreFunctions, with_name}
 use Rattle.pair_setup.specs.Sizes.{AnyLargeCode, AnyLargeSource}
@@ -32,10 +32,12 @@ functions_of (name ∷ list) (f ∷ functions) = with_name name f ∷ functions_
 abbrev pub pairs_of : List (List ℕ) → Pairs → spec.Pairs
 pairs_of list pairs = record { functions = functions_of list pairs.functions.items; entries = pairs.entries.items }
 
--- the list has these pairs, and the graphs are those of the functions at their entries
+-- the list has these pairs; the graphs are those of the functions at their entries, and these are the first nodes of the
+-- instructions in each
 pub record ArePairs (image : Image) (unit : Typed) (list : List (List ℕ)) (pairs : Pairs) : Type 0 where
   pub paired : IsPaired image unit list (pairs_of list pairs)
   pub code : AreCode image pairs.entries.items (graphs_of pairs.code.items)
+  pub firsts : code.firsts ≡ firsts_of pairs.firsts.items
 
 -- the name of which a fault speaks
 abbrev pub IsNamed : (names list : List (List ℕ)) → Named → (name : List ℕ) → Type 0
@@ -67,11 +69,11 @@ pub record AreChecked (image : Image) (unit : Typed) (names list : List (List �
   pub numbers_are : AreReachedNumbers unit names list numbers
   pub entries_are : (entry : ℕ) → Contains entries entry ↔ IsReached image list entry
 
--- the entries, rising, and the graphs of their functions; no graph of these is too large
-pub record AreSmall (image : Image) (unit : Typed) (names : List (List ℕ)) (numbers old new : List ℕ) (graphs : List Graph) : Type 0 where
+-- the entries, rising, and the graphs of their functions with the first nodes of instructions; no graph of these is too large
+pub record AreSmall (image : Image) (unit : Typed) (names : List (List ℕ)) (numbers old new : List ℕ) (graphs : List Graph) (firsts : List (List (ℕ × ℕ))) : Type 0 where
   pub rising : IsStrictlyIncreasing new
   pub same : (entry : ℕ) → Contains new entry ↔ Contains old entry
-  pub graphs_are : AreCode image new graphs
+  pub graphs_are : AreKept image new graphs firsts
   pub code : AnyLargeCode image old → ⊥
   pub source : AnyLargeSource unit names numbers → ⊥
 

@@ -1,10 +1,11 @@
 -- The graphs of the functions at some entries, each with the first nodes of its instructions.
-use Rattle.std.specs.Prelude.{◌≡◌, ◌⊎◌, ℕ, List, [], length, get_or, Contains, Some, IsSome, Bool, true, false, slice_get}
+use Rattle.std.specs.Prelude.{◌≡◌, ◌⊎◌, ℕ, List, [], length, map, get_or, Contains, Some, IsSome, Bool, true, false, slice_get}
 use Rattle.elf_read_spec.specs.Image.{Image, size_at}
 use Rattle.code_reach_spec.specs.Faults.{HasNoFault}
 use Rattle.graph_core_spec.specs.Graph.{Graph}
 use Rattle.decompile_spec.specs.CodeGraph.{IsCall}
 use Rattle.decompile.specs.Answer.{AreFirsts, IsFunctionGraph}
+use Rattle.indexmap.specs.IndexMap.{IndexMap}
 use Rattle.pair_setup_spec.specs.Nodes.{IsLargeCode}
 use Rattle.c_types_spec.specs.Core.{Typed}
 use Rattle.pair_setup.specs.Sizes.{AnyLargeCode, AnyLargeSource}
@@ -20,9 +21,8 @@ pub record IsCodeBy (image : Image) (entries : List ℕ) (entry : ℕ) (graph : 
   pub graph_is : IsFunctionGraph image entry entries graph firsts
   pub firsts_are : AreFirsts image entry firsts
 
--- a graph of it, which isn't too large
-pub record IsSmallCode (image : Image) (entries : List ℕ) (entry : ℕ) (graph : Graph) : Type 0 where
-  pub firsts : List (ℕ × ℕ)
+-- they are, and the graph isn't too large
+pub record IsSmallCode (image : Image) (entries : List ℕ) (entry : ℕ) (graph : Graph) (firsts : List (ℕ × ℕ)) : Type 0 where
   pub code : IsCodeBy image entries entry graph firsts
   pub small : IsLargeCode image entry → ⊥
 
@@ -38,13 +38,29 @@ pub record AreCodeOf (image : Image) (entries : List ℕ) (n : ℕ) (graphs : Li
 abbrev pub AreCode : Image → (entries : List ℕ) → List Graph → Type 0
 AreCode image entries graphs = AreCodeOf image entries (length entries) graphs
 
+-- the first nodes of instructions, as maps have them
+abbrev pub firsts_in : {S : Type 0} → IndexMap ℕ ℕ S → List (ℕ × ℕ)
+firsts_in by_address = by_address.entries
+
+abbrev pub firsts_of : {S : Type 0} → List (IndexMap ℕ ℕ S) → List (List (ℕ × ℕ))
+firsts_of maps = map firsts_in maps
+
+-- graphs of the first n functions, of whose instructions these are the first nodes
+pub record AreKeptOf (image : Image) (entries : List ℕ) (n : ℕ) (graphs : List Graph) (firsts : List (List (ℕ × ℕ))) : Type 0 where
+  pub code : AreCodeOf image entries n graphs
+  pub are : code.firsts ≡ firsts
+
+-- of all of them
+abbrev pub AreKept : Image → (entries : List ℕ) → List Graph → (firsts : List (List (ℕ × ℕ))) → Type 0
+AreKept image entries graphs firsts = AreKeptOf image entries (length entries) graphs firsts
+
 -- of all functions, if none is too large; false where one is
-abbrev pub AreCodeIf : Image → (entries : List ℕ) → List Graph → Bool → Type 0
-AreCodeIf image entries graphs true = AreCode image entries graphs × (AnyLargeCode image entries → ⊥)
-AreCodeIf image entries graphs false = AnyLargeCode image entries
+abbrev pub AreCodeIf : Image → (entries : List ℕ) → List Graph → (firsts : List (List (ℕ × ℕ))) → Bool → Type 0
+AreCodeIf image entries graphs firsts true = AreKept image entries graphs firsts × (AnyLargeCode image entries → ⊥)
+AreCodeIf image entries graphs firsts false = AnyLargeCode image entries
 
 -- the same, and no graph of these C functions, by numbers, is too large either
-abbrev pub AreSmallIf : Image → Typed → (names : List (List ℕ)) → (numbers entries : List ℕ) → List Graph → Bool → Type 0
-AreSmallIf image unit names numbers entries graphs true =
-    AreCode image entries graphs × (AnyLargeCode image entries → ⊥) × (AnyLargeSource unit names numbers → ⊥)
-AreSmallIf image unit names numbers entries graphs false = AnyLargeCode image entries ⊎ AnyLargeSource unit names numbers
+abbrev pub AreSmallIf : Image → Typed → (names : List (List ℕ)) → (numbers entries : List ℕ) → List Graph → (firsts : List (List (ℕ × ℕ))) → Bool → Type 0
+AreSmallIf image unit names numbers entries graphs firsts true =
+    AreKept image entries graphs firsts × (AnyLargeCode image entries → ⊥) × (AnyLargeSource unit names numbers → ⊥)
+AreSmallIf image unit names numbers entries graphs firsts false = AnyLargeCode image entries ⊎ AnyLargeSource unit names numbers

@@ -1,7 +1,7 @@
 //! Globals that have no place in the executable.
 
-ghost use Rattle.std.specs.Prelude.{◌≡◌, ◌↔◌, ℕ, [], Option, Some, IfOk, IsTrue, OnOk};
-ghost use Rattle.std.specs.Prelude.{option_map};
+ghost use Rattle.std.specs.Prelude.{◌≡◌, ◌↔◌, ◌≤◌, ℕ, [], Option, Some, IfOk, IfSome, IsTrue};
+ghost use Rattle.std.specs.Prelude.{MatchResult, OnOk, option_map};
 ghost use Rattle.c_types_layout.specs.Structs.{capped, structs_of};
 ghost use Rattle.c_types_layout.specs.Types.{type_of};
 ghost use Rattle.c_types_spec.specs.Types as types;
@@ -32,11 +32,12 @@ fn has_size(image: &Image<'_>, name: &[u8], size: u64) -> bool
 }
 
 /// Whether the first OBJECT symbol of a name has the size of a type; it hasn't where that has none.
-/// A size from the limit of sizes on is answered as out of memory: no unit has an object of such a
-/// size.
+/// It is out of memory exactly where the size is from the limit of sizes on, as no object of a unit
+/// has.
 fn is_sized(image: &Image<'_>, name: &[u8], size: Option<u64>) -> Result<bool, AllocError>
-    ensures { IfOk result (λ sized. (full : Option ℕ) → size ≡ capped full → (IsTrue sized
-        ↔ spec.HasSize image.now name.now (known_size full))) }
+    ensures { MatchResult result (λ sized. (full : Option ℕ) → size ≡ capped full → (IsTrue sized
+        ↔ spec.HasSize image.now name.now (known_size full)))
+        (λ _. IfSome size (λ n. SIZE_LIMIT ≤ n)) }
 {
     match size {
         None => Ok(false),

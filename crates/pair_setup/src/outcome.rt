@@ -2,6 +2,7 @@
 
 use code_reach::CodeFault;
 use graph_core::Graph;
+use indexmap::IndexMap;
 use pair_setup_spec::PairKind;
 
 /// A listed function.
@@ -24,6 +25,8 @@ pub struct Pairs {
     pub entries: Vec<u32>,
     /// The graphs of the functions at these entries, in their order.
     pub code: Vec<Graph>,
+    /// The number of the first node of each instruction in these graphs, by its address.
+    pub firsts: Vec<IndexMap<u32, usize>>,
 }
 
 /// A name of which a fault speaks.

@@ -6,7 +6,7 @@ ghost use Rattle.c_types_spec.specs.HasType.{IsTypedUnit};
 ghost use Rattle.c_types.specs.Typed.{typed_of};
 ghost use Rattle.pair_setup_calls.specs.Names.{names_of, texts_of};
 ghost use Rattle.pair_setup.specs.Surveys.{IsSurvey};
-ghost use Rattle.pair_setup.specs.Graphs.{IsSound};
+ghost use Rattle.pair_setup.specs.Graphs.{IsSound, firsts_of};
 ghost use Rattle.pair_setup.specs.Answers.{AreChecked, ArePairs, AreSmall, IsLargeError};
 ghost use Rattle.pair_setup.specs.Answers.{IsPairError};
 
@@ -20,7 +20,7 @@ use attempt::{Refusal, attempt};
 use c_types::typed::Typed;
 use elf_read::Image;
 use graph_core::Graph;
-use indexmap::IndexSet;
+use indexmap::{IndexMap, IndexSet};
 use pair_setup_spec::PairKind;
 use std::alloc::Global;
 
@@ -49,26 +49,37 @@ fn checked(
     functions(alloc, image, unit, survey, list, firsts.as_slice())
 }
 
-/// The entries, ascending, whose graphs are added, where none of these, and none of these C
-/// functions, is too large.
+/// The entries, ascending, whose graphs are added with the first nodes of their instructions, where
+/// none of these, and none of these C functions, is too large.
 fn small_entries(
     alloc: Global,
     graphs: &mut Vec<Graph>,
+    firsts: &mut Vec<IndexMap<u32, usize>>,
     image: &Image<'_>,
     unit: &Typed<'_>,
     numbers: &[usize],
     entries: &mut IndexSet<u32>,
 ) -> Result<Vec<u32>, Refusal<PairFault>>
     requires none { graphs.old.items ≡ [] }
+    requires no_firsts { firsts.old.items ≡ [] }
     requires sound { All (IsSound image.now entries.old.keys) entries.old.keys }
     ensures small { IfOk result (λ found. AreSmall image.now (typed_of unit.now) (names_of unit.now)
-        numbers.now entries.old.keys found.items (graphs_of graphs.new.items)) }
+        numbers.now entries.old.keys found.items (graphs_of graphs.new.items)
+        (firsts_of firsts.new.items)) }
     ensures error { IfErr result (IsLargeError image.now (typed_of unit.now) (names_of unit.now)
         numbers.now entries.old.keys) }
 {
     attempt!(entries.sort(), Refusal::NoMemory);
     let small = attempt!(
-        add_small(alloc, graphs, image, unit, numbers, entries.as_slice()),
+        add_small(
+            alloc,
+            graphs,
+            firsts,
+            image,
+            unit,
+            numbers,
+            entries.as_slice()
+        ),
         Refusal::NoMemory
     );
     if !small {
@@ -100,12 +111,22 @@ fn listed_pairs(
     let mut entries = IndexSet::new(alloc);
     let functions = attempt!(checked(alloc, image, unit, survey, &mut seen, &mut entries, list));
     let mut code = Vec::new(alloc);
+    let mut firsts = Vec::new(alloc);
     let numbers = seen.as_slice();
-    let entries = attempt!(small_entries(alloc, &mut code, image, unit, numbers, &mut entries));
+    let entries = attempt!(small_entries(
+        alloc,
+        &mut code,
+        &mut firsts,
+        image,
+        unit,
+        numbers,
+        &mut entries
+    ));
     Ok(Pairs {
         functions,
         entries,
         code,
+        firsts,
     })
 }
 

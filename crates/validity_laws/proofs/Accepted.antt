@@ -12,7 +12,7 @@ use Rattle.cert_check_lines_spec.specs.Jobs.{AtEntry}
 use Rattle.cert_check_lines_spec.specs.Sites.{Part}
 use Rattle.cert_check_lines_spec.specs.Shown.{IsShown}
 use Rattle.cert_check_lines_spec.specs.Parts.{Functions, Member, Unfolded, unfolded, part_of, LacksPart, State, Between, HasParts, at_start, Accepts, first, next, last, AreAccepted, none, some, AreShown, no_part, one_more, IsPlainLine}
-use Rattle.cert_check_lines_laws.proofs.Accepting.{plain_is_shown}
+use Rattle.cert_check_lines_spec.proofs.Accepting.{plain_is_shown}
 use Rattle.validity_laws.specs.Derivation.{Function, pair_for, AreSides, IsFunction}
 use Rattle.validity_laws.specs.CheckStatements.{listed_of, IsFile, AreFunctions}
 use Rattle.validity_laws.specs.Shown as shown

@@ -12,7 +12,7 @@ use Rattle.cert_check_lines_spec.specs.Parts.{Between, AreAccepted, IsPlainLine}
 use Rattle.cert_check_lines_spec.specs.Known.{is_known, AreMembersOf}
 use Rattle.cert_check_lines_spec.proofs.Members as alone
 use Rattle.cert_check_lines_spec.proofs.Members.{no_functions}
-use Rattle.cert_check_lines_laws.proofs.Going.{going_is_accepted}
+use Rattle.cert_check_lines_spec.proofs.Going.{going_is_accepted}
 use Rattle.validity_laws.specs.Derivation.{Function}
 use Rattle.validity_laws.specs.CheckStatements.{AreLines, listed_of, ProofsGiveValidity}
 use Rattle.validity_laws.specs.Shown.{AreNamed}

@@ -13,3 +13,4 @@ pub mod Choices
 pub mod Spans
 pub mod Lines
 pub mod Invariant
+pub mod Examples

@@ -6,5 +6,12 @@
 //! `bits`, `specs/LowBits.antt` the rule `low`, `specs/Ranges.antt` the rule
 //! `range`, `specs/Zones.antt` the rules `zone` and `within`, `specs/Quotients.antt` the rule
 //! `quot`, `specs/Choices.antt` the rule `lift`, `specs/Spans.antt` the rule `fit`.
-//! Nothing of the crate runs.
+//!
+//! Its laws ([`laws`]): each line of a block keeps the invariant, the goals that are left after a
+//! block are enough, in normal form and without new variables, each rule's test says that terms
+//! have one value, and the polynomial of a word has the word's value. [`examples`] has worked
+//! blocks, and pairs and near misses for each rule. Nothing of the crate runs.
 #![tactic(auto)]
+
+pub mod examples;
+pub mod laws;

@@ -12,7 +12,6 @@ decompile_within-requires c = record { function = c.requires.sound.sized; rising
 
 pub returns-in-Ok : goal.returns-in-Ok
 returns-in-Ok c = record {
-  firsts = c.in-Ok.found.firsts.entries;
   code = record { graph_is = c.in-Ok.ensures.graph; firsts_are = c.in-Ok.ensures.firsts };
   small =
       not-large c.args.image.now c.args.entry c.args.entries.now c.code_graphs_have_one_size.ensures (graph_of c.in-Ok.found.graph) c.in-Ok.found.firsts.entries

@@ -1,6 +1,0 @@
-pub mod Logs
-pub mod Showing
-pub mod Stepping
-pub mod Accepting
-pub mod Going
-pub mod Refused

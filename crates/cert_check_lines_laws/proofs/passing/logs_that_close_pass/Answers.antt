@@ -1,5 +1,0 @@
-use Rattle.cert_check_lines_laws.proofs.Stepping.{closing_passes}
-use Rattle.cert_check_lines_laws.proofs.passing.logs_that_close_pass.Goals as goal
-
-pub returns : goal.returns
-returns c = λ p at goal jobs log closes. closing_passes p at goal jobs log closes

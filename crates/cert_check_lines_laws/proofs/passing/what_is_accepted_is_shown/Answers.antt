@@ -1,5 +1,0 @@
-use Rattle.cert_check_lines_laws.proofs.Accepting.{accepted_is_shown}
-use Rattle.cert_check_lines_laws.proofs.passing.what_is_accepted_is_shown.Goals as goal
-
-pub returns : goal.returns
-returns c = accepted_is_shown

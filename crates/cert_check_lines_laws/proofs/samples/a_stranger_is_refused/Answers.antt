@@ -1,5 +1,0 @@
-use Rattle.cert_check_lines_laws.proofs.Refused.{refused_stranger}
-use Rattle.cert_check_lines_laws.proofs.samples.a_stranger_is_refused.Goals as goal
-
-pub returns : goal.returns
-returns c = refused_stranger

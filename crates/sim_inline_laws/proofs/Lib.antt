@@ -1,0 +1,10 @@
+pub mod Beside
+pub mod Copied
+pub mod Unfolded
+pub mod Chained
+pub mod Staying
+pub mod Ending
+pub mod Lines
+pub mod Starting
+pub mod Binary
+pub mod Source

@@ -1,7 +1,0 @@
-use Rattle.std.proofs.Common.{refl}
-use Rattle.word_steps_laws.proofs.Computes.{blocks_compute}
-use Rattle.word_steps_laws.proofs.examples.a_block_proves_a_goal.Goals as goal
-
-pub returns : goal.returns
-unfolding blocks_compute
-returns c = refl

@@ -1,5 +1,0 @@
-use Rattle.word_steps_laws.proofs.Left.{block_is_enough}
-use Rattle.word_steps_laws.proofs.laws.blocks_are_sound.Goals as goal
-
-pub returns : goal.returns
-returns c = block_is_enough

@@ -1,5 +1,0 @@
-use Rattle.word_steps_laws.proofs.Starting.{start_holds}
-use Rattle.word_steps_laws.proofs.laws.first_state_has_the_invariant.Goals as goal
-
-pub returns : goal.returns
-returns c = start_holds

@@ -1,5 +1,0 @@
-use Rattle.word_steps_laws.proofs.RingHolds.{polynomial_number}
-use Rattle.word_steps_laws.proofs.laws.polynomials_have_the_value.Goals as goal
-
-pub returns : goal.returns
-returns c = polynomial_number

@@ -1,0 +1,7 @@
+use Rattle.std.proofs.Common.{refl}
+use Rattle.word_steps_spec.proofs.Computes.{blocks_compute}
+use Rattle.word_steps_spec.proofs.examples.order_counts.Goals as goal
+
+pub returns : goal.returns
+unfolding blocks_compute
+returns c = (refl, (refl, (refl, (refl, (refl, (refl, (refl, tt)))))))
