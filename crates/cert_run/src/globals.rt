@@ -77,13 +77,13 @@ fn add_globals<'a>(globals: &mut Vec<Placed<'a>>, image: &Image<'a>) -> Result<(
     ensures { OnOk result ((name : List ℕ) → address_in globals.new.items name
         ≡ globals_of image.now name) }
 {
-    for index in 0..usize::MAX {
+    for index in 0..image.symbol_count() {
         match image.symbol(index) {
             Some(symbol) => attempt!(add_global(globals, image, index, symbol)),
             None => return Ok(()),
         }
     }
-    Err(AllocError)
+    Ok(())
 }
 
 /// The globals of an executable: of each name whose OBJECT symbols have one value, that.

@@ -59,6 +59,7 @@ one_coded image entries n graphs entry graph made are at is = record {
 
 pub none_kept : {S : Type 0} (image : Image) (entries : List ℕ) (graphs : List code.Graph) (firsts : List (IndexMap ℕ ℕ S)) → graphs ≡ [] → firsts ≡ []
     → AreKeptOf image entries 0 (graphs_of graphs) (firsts_of firsts)
+unfolding none_coded
 none_kept image entries graphs firsts none no_firsts = record {
   code = none_coded image entries (graphs_of graphs) (ap (λ (l : List code.Graph). graphs_of l) none);
   are = sym (ap firsts_of no_firsts);
@@ -68,6 +69,7 @@ pub one_kept : {S : Type 0} (image : Image) (entries : List ℕ) (n : ℕ) (grap
     (graph : code.Graph) (made : IndexMap ℕ ℕ S) → AreKeptOf image entries n (graphs_of graphs) (firsts_of firsts) → slice_get entries n ≡ Some entry
     → IsSmallCode image entries entry (graph_of graph) (firsts_in made) → new_graphs ≡ graphs ++ graph ∷ [] → new_firsts ≡ firsts ++ made ∷ []
     → AreKeptOf image entries (n + 1) (graphs_of new_graphs) (firsts_of new_firsts)
+unfolding one_coded
 one_kept image entries n graphs new_graphs firsts new_firsts entry graph made are at is graphs_are firsts_are =
     subst (λ (l : List Graph). AreKeptOf image entries (n + 1) l (firsts_of new_firsts))
     (sym (ap (λ (l : List code.Graph). graphs_of l) graphs_are ∙ map-append graph_of graphs (graph ∷ [])))

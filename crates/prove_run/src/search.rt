@@ -16,29 +16,16 @@ use std::alloc::{AllocError, Global};
 use term_bank::Bank;
 use tv_base::{Note, Notes};
 
-// What the search finds of a function; the bank is for its terms.
-fn find_in<N: Notes>(
-    alloc: Global,
-    function: &Listed<'_>,
-    bank: &mut Bank,
-    notes: &mut N,
-) -> Result<Found, AllocError>
-    ensures { (f : spec.Listed) → IsListed function.now f → HasTruths f
-        → IfOk result (λ found. IsFound f (found_of found)) }
-{
-    match leaf_obligations(alloc, function, bank) {
-        Ok(goals) => search(alloc, bank, goals.as_slice(), function.runs, notes),
-        Err(refusal) => why(refusal),
-    }
-}
-
-// What the search finds of a function, in a bank of its own.
+// What the search finds of a function; its terms have a bank of their own.
 fn find<N: Notes>(alloc: Global, function: &Listed<'_>, notes: &mut N) -> Result<Found, AllocError>
     ensures { (f : spec.Listed) → IsListed function.now f → HasTruths f
         → IfOk result (λ found. IsFound f (found_of found)) }
 {
     let mut bank = Bank::new(alloc);
-    find_in(alloc, function, &mut bank, notes)
+    match leaf_obligations(alloc, function, &mut bank) {
+        Ok(goals) => search(alloc, &mut bank, goals.as_slice(), function.runs, notes),
+        Err(refusal) => why(refusal),
+    }
 }
 
 // Notes that a function is the next.

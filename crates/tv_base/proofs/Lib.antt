@@ -1,3 +1,4 @@
 mod Caused
 mod Grown
 mod Taken
+mod Begun

@@ -17,8 +17,8 @@ use std::io::{IsTerminal, Stderr};
 use std::process::ExitCode;
 use std::rt::Env;
 use std::{env, io};
+use tv_base::{Descriptors, FileDesk, FileStore, OutSink};
 use tv_core::{Trails, run};
-use tv_outside::{Descriptors, FileDesk, FileStore, OutSink};
 
 /// The words that the program was started with.
 fn words(rt: &(impl Env + AllocGlobal)) -> io::Result<Vec<String>> {

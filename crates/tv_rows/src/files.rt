@@ -3,8 +3,7 @@
 
 use row_io::Out;
 use std::alloc::Global;
-use tv_base::{Desk, Sink, Store, read_up_to, write_all};
-use tv_outside::{FileDesk, FileStore, OutSink};
+use tv_base::{Desk, FileDesk, FileStore, OutSink, Sink, Store, read_up_to, write_all};
 
 fn put_done(done: bool, out: &mut Out) {
     out.put(if done { "done " } else { "fault " });

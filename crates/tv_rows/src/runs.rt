@@ -7,9 +7,10 @@ use crate::words::read_words;
 use attempt::attempt;
 use row_io::{Out, decimal, split};
 use std::alloc::{AllocError, Global};
-use tv_base::NoNotes;
+use tv_base::{
+    GivenFile, MemDesk, MemSink, MemStore, NoNotes, SteadyDesk, SteadySink, SteadyStore,
+};
 use tv_core::{Trails, run};
-use tv_outside::{GivenFile, MemDesk, MemSink, MemStore, SteadyDesk, SteadySink, SteadyStore};
 
 /// More bytes than any call is asked for.
 const ALL: usize = 100_000_000;

@@ -1,4 +1,5 @@
-use Rattle.std.proofs.Common.{sym}
+use Rattle.std.proofs.Common.{sym, arith}
+use Rattle.std.proofs.lemmas.Option.{slice_get_past}
 use Rattle.cert_run.proofs.Placing.{none_placed, all_placed}
 use Rattle.cert_run.proofs.globals.add_globals.Goals as goal
 
@@ -13,3 +14,9 @@ loop-index-preserved c = c.in-Ok-attempt.ensures c.loop-index.invariant
 
 pub returns-in-None : goal.returns-in-None
 returns-in-None c = all_placed c.args.image.now c.loop-index.index c.loop-index.globals.items (sym c.in-None.ensures) c.loop-index.invariant
+
+-- all symbols have been seen
+pub returns : goal.returns
+returns c =
+    all_placed c.args.image.now c.loop-index.index c.loop-index.globals.items
+    (slice_get_past c.args.image.now.symbols c.loop-index.index (omega (arith, c.symbol_count-index-end.ensures, c.loop-index-test.false))) c.loop-index.invariant

@@ -1,0 +1,5 @@
+pub mod Loops
+pub mod Inlining
+pub mod Choices
+pub mod Shapes
+pub mod Samples

@@ -1,4 +1,0 @@
-pub mod Given
-pub mod Shelf
-pub mod Plans
-pub mod Contents

@@ -1,0 +1,10 @@
+pub mod Operators
+pub mod Later
+pub mod Renewals
+pub mod Noted
+pub mod Numbering
+pub mod Arguing
+pub mod Adding
+pub mod Joining
+pub mod Merged
+pub mod Taken

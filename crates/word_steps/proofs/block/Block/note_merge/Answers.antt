@@ -1,0 +1,19 @@
+use Rattle.std.proofs.Common.{refl, ap, set, ◌∙◌}
+use Rattle.word_steps.specs.declared.number.Marks.{Marks}
+use Rattle.word_steps.specs.declared.number.Number.{Number}
+use Rattle.word_steps.specs.Views.{with_other}
+use Rattle.std.proofs.lemmas.List.{length-set}
+use Rattle.word_steps.proofs.Noted.{merge_becomes}
+use Rattle.word_steps.proofs.block.Block.note_merge.Goals as goal
+
+pub returns-clause-becomes : goal.returns-clause-becomes
+returns-clause-becomes c =
+    let items = c.args.self.now.numbers.items in
+    λ trees is.
+    merge_becomes trees c.args.self.now _ c.args.index c.args.other c.requires.index c.requires.other
+    (ap (λ (m : Marks). set items c.args.index (record (c.number-number.result) { marks = m })) c.with_other-number.ensures
+    ∙ ap (λ (n : Number). set items c.args.index (record n { marks = with_other n.marks c.args.other })) c.number-number.ensures)
+    refl refl refl is
+
+pub returns-clause-count : goal.returns-clause-count
+returns-clause-count c = length-set c.args.self.now.numbers.items c.args.index _
