@@ -52,7 +52,7 @@ from concurrent.futures import ThreadPoolExecutor
 from pathlib import Path
 
 import random_functions
-from machine import Call, Image, signed
+from machine import Call, Image, drawn, signed
 
 HERE = Path(__file__).resolve().parent
 FLAGS = "-march=rv32im -mabi=ilp32 -nostdlib -static -ffreestanding -fno-strict-aliasing -funsigned-char -w -Wl,-e,f".split()
@@ -82,6 +82,9 @@ class Function:
         self.result = found[1]
         self.parameters = [p for p in found[2].split(",") if p.strip() != "void"]
 
+    def call(self, image, arguments, sample):
+        return Call(image, "f", arguments, sample, drawn(POOL))
+
     def samples(self, seed):
         """Arguments as the convention passes them, and the seed of a memory."""
         made = random.Random(f"{seed} {self.name}")
@@ -108,11 +111,16 @@ def functions(options):
         for name, text in random_functions.functions(options.random, options.seed):
             yield Function(name, text, None)
         return
-    parts = re.split(r"^== (.*)\n", (HERE / "functions.txt").read_text(), flags=re.M)
-    for name, body in zip(parts[1::2], parts[2::2]):
+    for name, body in listed(HERE / "functions.txt"):
         text, twin = body.split("\n--\n")
         if options.only in name:
             yield Function(name, text.strip() + "\n", twin.strip() + "\n")
+
+
+def listed(file):
+    """The names and texts of a file of functions."""
+    parts = re.split(r"^== (.*)\n", file.read_text(), flags=re.M)
+    return zip(parts[1::2], parts[2::2])
 
 
 # ---- what code does
@@ -131,14 +139,14 @@ class Reference:
     def __init__(self, function, guarded, seed):
         self.function, self.kept = function, []
         for arguments, sample in function.samples(seed):
-            made = Call(guarded, "f", arguments, sample, POOL)
+            made = function.call(guarded, arguments, sample)
             if made.end == "returned":
                 self.kept.append((arguments, sample, outcome(made, function.result)))
 
     def difference(self, image):
         """The first sample at which a code does something else, and what."""
         for arguments, sample, wanted in self.kept:
-            got = outcome(Call(image, "f", arguments, sample, POOL), self.function.result)
+            got = outcome(self.function.call(image, arguments, sample), self.function.result)
             if got != wanted:
                 return arguments, wanted, got
         return None
@@ -365,8 +373,8 @@ def names(tally):
         print(f"{counted['valid']} of {sum(counted.values())} valid{others}: {name}")
 
 
-def main():
-    words = argparse.ArgumentParser(usage=__doc__)
+def main(usage=__doc__, of=functions):
+    words = argparse.ArgumentParser(usage=usage)
     words.add_argument("program")
     words.add_argument("--only", default="")
     words.add_argument("--random", default=0, type=int)
@@ -394,7 +402,7 @@ def main():
             one(options, Runner(options, kept / str(number)), tally, function, folder)
 
         with ThreadPoolExecutor(options.jobs) as pool:
-            list(pool.map(each, enumerate(functions(options), 1)))
+            list(pool.map(each, enumerate(of(options), 1)))
         print("pairs: " + ", ".join(f"{n} {kind}" for kind, n in options.counted.items()))
         for kind in ("right", "changed", "twin"):
             if any(row[1] == kind for row in tally.rows):

@@ -1,4 +1,4 @@
-"""RV32IM, executables and calls, written apart from the crates: what `compare_compilers.py` and `check_idioms.py` run code with.
+"""RV32IM, executables and calls, written apart from the crates: what `compare_compilers.py`, `compare_loops.py` and `check_idioms.py` run code with.
 
 A call is run on a memory in which every byte has a value, drawn by its address and a seed, until it returns, traps or
 takes too many steps. `Image` reads the segments and symbols of an executable, `tiny` writes one.
@@ -237,7 +237,7 @@ def step(x, pc, memory):
 class Call:
     """How a call of a function ends: `trapped`, `endless`, or what x10, kept registers and memory are."""
 
-    def __init__(self, image, name, arguments, seed, pool, stack=None):
+    def __init__(self, image, name, arguments, seed, words, stack=None):
         draw = lambda i: int.from_bytes(hashlib.blake2b(f"{seed} x{i}".encode(), digest_size=4).digest(), "little")
         x = [0] + [draw(i) for i in range(1, 32)]
         x[1], x[2] = RETURN, 0x7FFF0000
@@ -246,7 +246,7 @@ class Call:
         for i, value in enumerate(arguments):
             x[10 + i] = value & MASK
         before, pc = list(x), image.functions[name][0]
-        self.memory = Memory(image, seed, drawn(pool))
+        self.memory = Memory(image, seed, words)
         lowest = x[2] - (image.stack(name) if stack is None else stack)
         self.end, self.value, self.changed, self.kept = "endless", None, None, None
         try:

@@ -1,0 +1,5 @@
+pub mod Endings
+pub mod Reading
+pub mod Going
+pub mod Stacks
+pub mod LineEnds
