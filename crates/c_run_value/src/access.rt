@@ -1,8 +1,9 @@
 //! Accesses to objects in memory: the guards that they break, and what they read and write.
 
 ghost use Rattle.std.specs.Prelude.{◌≡◌, ◌+◌, ◌*◌, ◌/◌, ◌≤◌, ◌^◌, ◌<◌};
-ghost use Rattle.std.specs.Prelude.{IfNone, MatchOption, is_some, Ok};
+ghost use Rattle.std.specs.Prelude.{IfNone, IsErrOf, MatchOption, is_some, Ok};
 ghost use Rattle.std.specs.Bool.{OnTrue};
+ghost use Rattle.attempt.specs.declared.refusal.Refusal.TheVariants.{NoMemory};
 ghost use Rattle.memory_spec.specs.Runs.{fixed_byte};
 ghost use Rattle.memory_spec.specs.Viewed.{runs_of};
 ghost use Rattle.c_types_spec.specs.Values as rule;
@@ -157,7 +158,8 @@ fn of_bits(of: Scalar, bits: u64) -> i128
     convert(bits as i128, of)
 }
 
-/// The value of the object at an address.
+/// The value of the object at an address. Out of memory exactly where the type has no size of an
+/// object.
 #[tactic(auto, unfolding(c_run_spec::specs::Accesses::object_value))]
 pub fn object_value(
     setting: &Setting<'_, '_>,
@@ -166,8 +168,9 @@ pub fn object_value(
     address: u128,
     offset: usize,
 ) -> Result<i128, Refusal<Stop>>
-    ensures { GivesValue result (spec.object_value (setting_of setting.now) memory.now of address
-        offset) }
+    ensures value { GivesValue result (spec.object_value (setting_of setting.now) memory.now of
+        address offset) }
+    ensures large { IsErrOf result NoMemory → 8 ≤ of.width → of.width ≤ 64 → ⊥ }
 {
     let Some(size) = size_of(of) else {
         return Err(Refusal::NoMemory);

@@ -1,6 +1,6 @@
 //! Globals that have no place in the executable.
 
-ghost use Rattle.std.specs.Prelude.{◌≡◌, ◌↔◌, ◌≤◌, ℕ, [], Option, Some, IfOk, IfSome, IsTrue};
+ghost use Rattle.std.specs.Prelude.{◌≡◌, ◌↔◌, ◌≤◌, ℕ, [], Option, Some, IfOk, IsSomeAnd, IsTrue};
 ghost use Rattle.std.specs.Prelude.{MatchResult, OnOk, option_map};
 ghost use Rattle.c_types_layout.specs.Structs.{capped, structs_of};
 ghost use Rattle.c_types_layout.specs.Types.{type_of};
@@ -37,7 +37,7 @@ fn has_size(image: &Image<'_>, name: &[u8], size: u64) -> bool
 fn is_sized(image: &Image<'_>, name: &[u8], size: Option<u64>) -> Result<bool, AllocError>
     ensures { MatchResult result (λ sized. (full : Option ℕ) → size ≡ capped full → (IsTrue sized
         ↔ spec.HasSize image.now name.now (known_size full)))
-        (λ _. IfSome size (λ n. SIZE_LIMIT ≤ n)) }
+        (λ _. IsSomeAnd size (λ n. SIZE_LIMIT ≤ n)) }
 {
     match size {
         None => Ok(false),

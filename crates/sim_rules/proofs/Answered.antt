@@ -1,5 +1,5 @@
 -- The answer of a rule whose obligations are of both sides' walks, from what is known of the sides and what was added.
-use Rattle.std.proofs.Common.{◌≡◌, ◌<◌, ℕ, List, All, Bool, true, false, Option, length, sym, subst}
+use Rattle.std.proofs.Common.{◌≡◌, ◌∙◌, ◌<◌, ℕ, List, All, Bool, true, false, Option, Some, length, refl, sym, ap, subst}
 use Rattle.std.specs.Prelude.{Vec, Ok}
 use Rattle.std.specs.Global.{Global}
 use Rattle.term_core_spec.specs.Term.{Term}
@@ -9,8 +9,9 @@ use Rattle.visit_walk_spec.specs.Visits.{Visit, Walk}
 use Rattle.proof_tree_spec.specs.Frames.{Frame, Hold}
 use Rattle.proof_tree.specs.Frames.{frame_of}
 use Rattle.sim_rules_spec.specs.Obligations.{Leaf, RestrictBinary, RestrictSource, Wait}
-use Rattle.sim_rules_spec.specs.Rules.{Opening, Seen}
+use Rattle.sim_rules_spec.specs.Rules.{Opening, Seen, premise_terms}
 use Rattle.sim_rules_spec.specs.Sides as ways
+use Rattle.sim_rules_spec.specs.Sides.{breaks, visit_mark}
 use Rattle.sim_rules_spec.specs.declared.Side.{Side}
 use Rattle.sim_rules_spec.specs.declared.Side.TheVariants.{Binary, Source}
 use Rattle.sim_rules_terms.specs.Held.{AreHeld}
@@ -29,12 +30,12 @@ use Rattle.sim_rules.specs.Made.{changed}
 use Rattle.sim_rules.specs.Replies.{IsAnswer}
 use Rattle.sim_rules.specs.Setups.{IsSetupOver}
 use Rattle.sim_rules.specs.Sides.{way_at}
-use Rattle.sim_rules.specs.Terms.{leaf_all, restrict_all, wait_all}
+use Rattle.sim_rules.specs.Terms.{denial, leaf_all, never_in, restrict_all, wait_all}
 use Rattle.sim_rules.specs.Walks.{AreFound, AreOf, AreSeen, AreWalked, CanSee, seen_by}
 use Rattle.sim_rules.proofs.Answering.{by_terms}
 use Rattle.sim_rules.proofs.Faulty.{leaf_few, binary_few, source_few, wait_few}
 use Rattle.sim_rules.proofs.Finishing.{leaf_obligations, binary_obligations, source_obligations, wait_obligations}
-use Rattle.sim_rules.proofs.Held.{held_within}
+use Rattle.sim_rules.proofs.Held.{held_count, held_within}
 use Rattle.sim_rules.proofs.Made.{by_convention, own_compared, own_opening, own_setup, setup_later, sides_later, sides_of, some_sides}
 
 -- the way of a side that was walked
@@ -104,6 +105,10 @@ module _ (b0 b2 : List Term) (s : Setup) (sides : Sides) (ids : Vec ℕ Global) 
   within : (binary source : Change) (terms : Terms) → AreAdded b0 b2 s binary source sides ids.items terms → All (λ (id : ℕ). id < length b2) ids.items
   within binary source terms added = held_within b2 ids.items _ (added (own_compared s) (own_opening b0 s) (own_setup b0 s opening))
 
+  -- where there is a list of visits, one term is left
+  one_term : (denied : Term) (w : ways.Way) (visits : Option (List Visit)) (test : Visit → Bool) → (v : List Visit) × (visits ≡ Some v) → length (never_in denied w visits test) ≡ 1
+  one_term denied w visits test there = ap (λ (o : Option (List Visit)). length (never_in denied w o test)) there.1
+
   pub leaf_answer : AreWalked s Plain Plain sides → Enough true true
       → AreAdded b0 b2 s Plain Plain sides ids.items (λ z c o a d. leaf_all c o (frame_of z.frame.now) a d) → IsAnswer b0 b2 s Leaf (Ok ids)
   leaf_answer walked enough added =
@@ -113,6 +118,7 @@ module _ (b0 b2 : List Term) (s : Setup) (sides : Sides) (ids : Vec ℕ Global) 
       (known true a_on _ _ (walked.of_binary.walk_is o) enough.binary) (known true d_on _ _ (walked.of_source.walk_is o) enough.source)
       (added (compared_by c) o (by_convention b0 c o s is)))
       (within Plain Plain (λ z c o a d. leaf_all c o (frame_of z.frame.now) a d) added)
+      tt
       (λ o. leaf_few o f s.maximum (few _ _ (walked.of_binary.walk_is o) (walked.of_source.walk_is o) enough.few))
 
   pub binary_answer : (bound : Mark) → AreWalked s (Restricting bound) Plain sides → Enough true false
@@ -120,12 +126,17 @@ module _ (b0 b2 : List Term) (s : Setup) (sides : Sides) (ids : Vec ℕ Global) 
       (λ z c o a d. restrict_all o (frame_of z.frame.now) a d a (frame_of z.frame.now).start.binary_bounds bound) → IsAnswer b0 b2 s (RestrictBinary bound) (Ok ids)
   binary_answer bound walked enough added =
       let shape = sides.binary.way.shape.successors.items in
+      let own : Opening = own_opening b0 s in
+      let a : Seen = seen_by (way_of s own Binary (Restricting bound) sides) sides.binary.visits in
+      let d : Seen = seen_by (way_of s own Source Plain sides) sides.source.visits in
       by_terms b0 b2 s (RestrictBinary bound) ids (λ index h. h)
       (λ c o is.
       binary_obligations b2 c o f (visits_in sides.binary.visits) (visits_in sides.source.visits) ids.items bound shape walked.of_binary.shape_is
       (known true a_on _ _ (walked.of_binary.walk_is o) enough.binary) (known false d_on _ _ (walked.of_source.walk_is o) enough.source)
       (added (compared_by c) o (by_convention b0 c o s is)))
       (within (Restricting bound) Plain (λ z c o a d. restrict_all o (frame_of z.frame.now) a d a (frame_of z.frame.now).start.binary_bounds bound) added)
+      (held_count b2 ids.items _ (added (own_compared s) own (own_setup b0 s opening))
+      ∙ one_term (denial (premise_terms own f a d)) a.way (visits_in sides.binary.visits) (breaks a.way.walk (visit_mark bound) (length f.start.binary_bounds)) (enough.binary.there refl))
       (λ o. binary_few o f s.maximum bound shape walked.of_binary.shape_is (few _ _ (walked.of_binary.walk_is o) (walked.of_source.walk_is o) enough.few))
 
   pub source_answer : (bound : Mark) → AreWalked s Plain (Restricting bound) sides → Enough false true
@@ -133,12 +144,17 @@ module _ (b0 b2 : List Term) (s : Setup) (sides : Sides) (ids : Vec ℕ Global) 
       (λ z c o a d. restrict_all o (frame_of z.frame.now) a d d (frame_of z.frame.now).start.source_bounds bound) → IsAnswer b0 b2 s (RestrictSource bound) (Ok ids)
   source_answer bound walked enough added =
       let shape = sides.source.way.shape.successors.items in
+      let own : Opening = own_opening b0 s in
+      let a : Seen = seen_by (way_of s own Binary Plain sides) sides.binary.visits in
+      let d : Seen = seen_by (way_of s own Source (Restricting bound) sides) sides.source.visits in
       by_terms b0 b2 s (RestrictSource bound) ids (λ index h. h)
       (λ c o is.
       source_obligations b2 c o f (visits_in sides.binary.visits) (visits_in sides.source.visits) ids.items bound shape walked.of_source.shape_is
       (known false a_on _ _ (walked.of_binary.walk_is o) enough.binary) (known true d_on _ _ (walked.of_source.walk_is o) enough.source)
       (added (compared_by c) o (by_convention b0 c o s is)))
       (within Plain (Restricting bound) (λ z c o a d. restrict_all o (frame_of z.frame.now) a d d (frame_of z.frame.now).start.source_bounds bound) added)
+      (held_count b2 ids.items _ (added (own_compared s) own (own_setup b0 s opening))
+      ∙ one_term (denial (premise_terms own f a d)) d.way (visits_in sides.source.visits) (breaks d.way.walk (visit_mark bound) (length f.start.source_bounds)) (enough.source.there refl))
       (λ o. source_few o f s.maximum bound shape walked.of_source.shape_is (few _ _ (walked.of_binary.walk_is o) (walked.of_source.walk_is o) enough.few))
 
   pub wait_answer : (hold : Hold) → AreWalked s (Holding hold.nodes.binary) Plain sides → Enough true false
@@ -150,4 +166,5 @@ module _ (b0 b2 : List Term) (s : Setup) (sides : Sides) (ids : Vec ℕ Global) 
       (known true a_on _ _ (walked.of_binary.walk_is o) enough.binary) (known false d_on _ _ (walked.of_source.walk_is o) enough.source)
       (added (compared_by c) o (by_convention b0 c o s is)))
       (within (Holding hold.nodes.binary) Plain (λ z c o a d. wait_all c o (frame_of z.frame.now) hold a d) added)
+      tt
       (λ o. wait_few o f s.maximum hold (few _ _ (walked.of_binary.walk_is o) (walked.of_source.walk_is o) enough.few))

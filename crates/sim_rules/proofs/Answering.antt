@@ -21,7 +21,7 @@ use Rattle.sim_rules.specs.Replies.{IsAnswer}
 use Rattle.sim_rules_terms.specs.Held.{AreHeld}
 use Rattle.sim_rules_terms.specs.Lines.{AreLines}
 use Rattle.sim_rules.specs.Lines.{IsLineFault}
-use Rattle.sim_rules.specs.Outcome.{AreObligations, HasFewVisits, HasLines, IsRuleFault}
+use Rattle.sim_rules.specs.Outcome.{AreObligations, HasFewVisits, HasLines, IsCount, IsRuleFault}
 use Rattle.sim_rules.specs.Setups.{IsSetup}
 
 abbrev Reply : Type 0
@@ -50,6 +50,7 @@ module _ (trees : List Term) (s : Setup) (r : Reply) (none : IfOk r (λ ids. ids
   of_term test lines fault = record {
     terms = λ c o is. IfOk-weaker r (λ ids. ids.items ≡ []) (λ ids. AreObligations trees c o f (spec.Case test) ids.items) (λ ids e. none_left trees c o f (spec.Case test) ids.items refl e) none;
     within = IfOk-weaker r (λ ids. ids.items ≡ []) (λ ids. All (λ (id : ℕ). id < length trees) ids.items) (λ ids e. none_within trees ids.items e) none;
+    count = IfOk-weaker r (λ ids. ids.items ≡ []) (λ ids. IsCount (spec.Case test) (length ids.items)) (λ ids e. tt) none;
     lines = on_ok_weaker r (no_bad f.setting f.start.path (test ∷ [])) lines;
     few = λ o. always (HasFewVisits o f s.maximum (spec.Case test)) (λ count h. h) r;
     fault = λ o. IfErr-weaker r (IsLineFault f.setting f.start.path (test ∷ [])) (IsRuleFault o f s.maximum (spec.Case test)) (bad o) fault;
@@ -65,6 +66,7 @@ module _ (trees : List Term) (s : Setup) (r : Reply) (none : IfOk r (λ ids. ids
   of_lines path lines are fault = record {
     terms = λ c o is. IfOk-weaker r (λ ids. ids.items ≡ []) (λ ids. AreObligations trees c o f (spec.Cut path lines) ids.items) (λ ids e. none_left trees c o f (spec.Cut path lines) ids.items refl e) none;
     within = IfOk-weaker r (λ ids. ids.items ≡ []) (λ ids. All (λ (id : ℕ). id < length trees) ids.items) (λ ids e. none_within trees ids.items e) none;
+    count = IfOk-weaker r (λ ids. ids.items ≡ []) (λ ids. IsCount (spec.Cut path lines) (length ids.items)) (λ ids e. tt) none;
     lines = on_ok_weaker r (no_bad f.setting path lines) are;
     few = λ o. always (HasFewVisits o f s.maximum (spec.Cut path lines)) (λ count h. h) r;
     fault = λ o. IfErr-weaker r (IsLineFault f.setting path lines) (IsRuleFault o f s.maximum (spec.Cut path lines)) (bad o) fault;
@@ -79,12 +81,12 @@ module _ (trees : List Term) (s : Setup) (r : Reply) (none : IfOk r (λ ids. ids
 -- ---- rules whose obligations are of both sides' walks
 
 pub no_memory : (before now : List Term) (s : Setup) (rule : Rule) → IsAnswer before now s rule (Err NoMemory)
-no_memory before now s rule = record { terms = λ c o is. tt; within = tt; lines = tt; few = λ o. tt; fault = λ o. tt }
+no_memory before now s rule = record { terms = λ c o is. tt; within = tt; count = tt; lines = tt; few = λ o. tt; fault = λ o. tt }
 
 pub by_fault : (before now : List Term) (s : Setup) (rule : Rule) (x : Refusal RuleFault) → ((o : Opening) → IsRuleFault o (frame_of s.frame.now) s.maximum rule x) → IsAnswer before now s rule (Err x)
-by_fault before now s rule x is = record { terms = λ c o setup. tt; within = tt; lines = tt; few = λ o. tt; fault = is }
+by_fault before now s rule x is = record { terms = λ c o setup. tt; within = tt; count = tt; lines = tt; few = λ o. tt; fault = is }
 
 pub by_terms : (before now : List Term) (s : Setup) (rule : Rule) (ids : Vec ℕ Global) → HasLines (frame_of s.frame.now) rule
     → ((c : Convention) (o : Opening) → IsSetup before c o s → AreObligations now c o (frame_of s.frame.now) rule ids.items) → All (λ (id : ℕ). id < length now) ids.items
-    → ((o : Opening) → HasFewVisits o (frame_of s.frame.now) s.maximum rule) → IsAnswer before now s rule (Ok ids)
-by_terms before now s rule ids lines are within few = record { terms = are; within = within; lines = lines; few = few; fault = λ o. tt }
+    → IsCount rule (length ids.items) → ((o : Opening) → HasFewVisits o (frame_of s.frame.now) s.maximum rule) → IsAnswer before now s rule (Ok ids)
+by_terms before now s rule ids lines are within count few = record { terms = are; within = within; count = count; lines = lines; few = few; fault = λ o. tt }

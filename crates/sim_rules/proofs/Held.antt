@@ -1,5 +1,5 @@
 -- Lists of ids of terms.
-use Rattle.std.proofs.Common.{◌≡◌, ◌∙◌, ◌<◌, ℕ, List, [], ◌∷◌, ◌++◌, All, length, map, refl, sym, ap, subst, append_assoc, append-nil}
+use Rattle.std.proofs.Common.{◌≡◌, ◌∙◌, ◌<◌, ℕ, suc, List, [], ◌∷◌, ◌++◌, All, length, map, refl, sym, ap, subst, append_assoc, append-nil}
 use Rattle.std.proofs.lemmas.List.Elements.{All-cons, All-nil}
 use Rattle.std.proofs.lemmas.Option.{slice_get_within, get_or_from_slice_get}
 use Rattle.term_core_spec.specs.Term.{Term}
@@ -19,6 +19,13 @@ pub held_within : (trees : List Term) (ids : List ℕ) (ts : List Term) → AreH
 held_within trees [] ts h = All-nil (λ (id : ℕ). id < length trees)
 held_within trees (i ∷ ids) [] h = absurd h
 held_within trees (i ∷ ids) (t ∷ ts) h = All-cons (λ (id : ℕ). id < length trees) i ids (slice_get_within trees i t h.0) (held_within trees ids ts h.1)
+
+-- there are as many ids as terms
+pub held_count : (trees : List Term) (ids : List ℕ) (ts : List Term) → AreHeld trees ids ts → length ids ≡ length ts
+held_count trees [] [] held = refl
+held_count trees [] (t ∷ ts) held = absurd held
+held_count trees (i ∷ ids) [] held = absurd held
+held_count trees (i ∷ ids) (t ∷ ts) held = ap (λ (n : ℕ). suc n) (held_count trees ids ts held.1)
 
 -- the terms of ids
 pub trees_held : (trees : List Term) (ids : List ℕ) (ts : List Term) → AreHeld trees ids ts → map (tree_at trees) ids ≡ ts

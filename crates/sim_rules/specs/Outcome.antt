@@ -1,11 +1,11 @@
 -- The obligations of a rule, as terms of a bank, and why there are none.
-use Rattle.std.specs.Prelude.{ℕ, List, Result, Ok, Err}
+use Rattle.std.specs.Prelude.{◌≡◌, ℕ, List, Result, Ok, Err}
 use Rattle.term_core_spec.specs.Term.{Term}
 use Rattle.proof_tree_spec.specs.Frames.{Frame}
 use Rattle.sim_rules_spec.specs.Points.{Convention}
 use Rattle.sim_rules_spec.specs.Rules.{Opening}
 use Rattle.sim_rules_spec.specs.Obligations as spec
-use Rattle.sim_rules_spec.specs.Obligations.{Rule, HasNoLine, IsCyclicOn, IsLargeOn, IsLargeRule}
+use Rattle.sim_rules_spec.specs.Obligations.{Rule, RestrictBinary, RestrictSource, HasNoLine, IsCyclicOn, IsLargeOn, IsLargeRule}
 use Rattle.attempt.specs.declared.refusal.Refusal.{Refusal}
 use Rattle.attempt.specs.declared.refusal.Refusal.TheVariants.{Fault, NoMemory}
 use Rattle.sim_rules.specs.declared.fault.RuleFault.{RuleFault}
@@ -17,6 +17,12 @@ pub record AreObligations (trees : List Term) (c : Convention) (o : Opening) (f 
   pub terms : List Term
   pub are : spec.AreObligations c o f rule terms
   pub held : AreHeld trees ids terms
+
+-- a Restrict has one obligation
+abbrev pub IsCount : Rule → (count : ℕ) → Type 0
+IsCount (RestrictBinary bound) count = count ≡ 1
+IsCount (RestrictSource bound) count = count ≡ 1
+IsCount rule count = Unit {0}
 
 -- out of memory may come at any time
 abbrev pub IsRuleFault : Opening → Frame → (maximum : ℕ) → Rule → Refusal RuleFault → Type 0

@@ -13,23 +13,15 @@ use Rattle.tv_core_spec.specs.Decisions.{Decision, Trails, no_trails, plain, fir
 use Rattle.tv_core_spec.specs.Laws.{OneVerdict, GivesNoneTwice, ProvedIsChecked, UnprovedIsMissing}
 use Rattle.tv_core_spec.specs.Listing.{Judge, Verify, names_of}
 use Rattle.tv_core_spec.specs.Verdicts.{IsVerdict, IsSound, AreSound}
+use Rattle.std.proofs.lemmas.Result.{on_ok_weaker, on_err_weaker}
+use Rattle.tv_core.specs.Files.{ReadsAsked}
 use Rattle.tv_core.specs.Tasks.{asked_of, task_of}
 use Rattle.tv_words.proofs.Commands.{same_command}
 use Rattle.tv_core.specs.Objects.{Contents, Outputs, State}
-use Rattle.tv_core.specs.Ends.{AskFor, IsUsageError, CheckDecides, ShowDecides, ProveDecides, IsOfCommand, IsText, HasText, IsVerdictOn, IsOutcome, usage_error, commanded, Becomes, LeavesText, LeavesUnder, Reports, certificate_name, Publishes, EndsBy, EndsWith, EndsAsDecided, EndsValid, EndsUnproved, EndsChecked, EndsShown, HandsOut, EndsPartly, Ends, RunsTo}
+use Rattle.tv_core.specs.Ends.{AskFor, IsUsageError, CheckDecides, ShowDecides, ProveDecides, IsOfCommand, IsText, HasText, IsVerdictOn, IsOutcome, usage_error, commanded, Becomes, LeavesText, LeavesUnder, Reports, Publishes, EndsBy, EndsWith, EndsAsDecided, EndsValid, EndsUnproved, EndsChecked, EndsShown, HandsOut, EndsPartly, Ends, RunsTo}
 use Rattle.tv_core.proofs.HandedOut.{GoesWith, command_goes, usage_goes}
 
 -- ---- outcomes
-
-pub outcome_of_some : (words : List (List ℕ)) (files : Contents) (asked : Option Command) (command : Command) (decision : Decision) → asked ≡ Some command
-    → AskFor words asked → IsOfCommand command decision → IsVerdictOn files command decision → IsOutcome words files (certificate_name asked) decision
-outcome_of_some words files asked command decision e is of_command on =
-    subst (λ o. IsOutcome words files (certificate_name o) decision) (sym e) (commanded command decision (subst (AskFor words) e is) of_command on)
-
-pub outcome_of_none : (words : List (List ℕ)) (files : Contents) (asked : Option Command) → asked ≡ None → AskFor words asked
-    → IsOutcome words files (certificate_name asked) (plain RefusedWords)
-outcome_of_none words files asked e none =
-    subst (λ o. IsOutcome words files (certificate_name o) (plain RefusedWords)) (sym e) (usage_error (subst (AskFor words) e none))
 
 abbrev is_usage : Verdict → Bool
 is_usage RefusedWords = true
@@ -446,6 +438,42 @@ ended_by words files name decision before now trails (Ok code) outcome is publis
   ends = record { status_is = is.0; reported = published.reported; stored = published.stored; trails_are = is.1 };
 }
 ended_by words files name decision before now trails (Err fault) outcome is published = tt
+
+-- a run that was out of memory at its words
+pub not_begun : (words : List (List ℕ)) (state : State) (trails : Trails) → RunsTo words state state trails trails (Err NoMemory)
+not_begun words state trails = record {
+  ended = tt;
+  trails_kept = refl;
+  part = inl refl;
+  store_part = inl refl;
+  store_first = inl refl;
+  taken = inl refl;
+  opened = inl refl;
+  same_files = refl;
+  failed = λ e. absurd cc;
+  unfailing = tt;
+  no_memory = λ e. (refl, (refl, refl));
+}
+
+-- a run that gave what is decided
+module _ (words : List (List ℕ)) (before now : State) (trails_before trails_now : Trails) (result : Result ℕ (Refusal OutsideFault)) where
+  pub gave : (name : List ℕ) (decision : Decision) → IsOutcome words before.desk.files name decision → ReadsAsked words before.desk now.desk
+      → now.desk.files ≡ before.desk.files → now.desk.faults ≡ before.desk.faults → Publishes name decision before.outputs now.outputs result
+      → IfOk result (λ code. (code ≡ status_of decision.verdict) × (trails_now ≡ decision.trails)) → OnErr result (trails_now ≡ trails_before)
+      → RunsTo words before now trails_before trails_now result
+  gave name decision outcome read files faults out status kept = record {
+    ended = ended_by words before.desk.files name decision before.outputs now.outputs trails_now result outcome status out;
+    trails_kept = kept;
+    part = on_err_weaker result (λ h. inr (name, decision, outcome, h)) out.part;
+    store_part = inr (name, decision, outcome, out.store_part);
+    store_first = out.store_first;
+    taken = read.0;
+    opened = read.1;
+    same_files = files;
+    failed = λ e. inr (out.failed e);
+    unfailing = on_ok_weaker result (λ same. (faults, same)) out.unfailing;
+    no_memory = λ e. (faults, out.no_memory e);
+  }
 
 -- the same up to its status
 pub as_status : {T : Type 0} (x : T) (name : List ℕ) (decision : Decision) (before now : Outputs) (code : ℕ) → Publishes {T = T} name decision before now (Ok x) → Publishes {T = ℕ} name decision before now (Ok code)

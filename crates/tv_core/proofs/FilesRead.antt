@@ -22,7 +22,7 @@ use Rattle.tv_core.specs.Objects.{Contents, DeskState}
 use Rattle.tv_core.specs.Decisions.{decision_of}
 use Rattle.tv_core.specs.declared.decision.Decision.{Decision as CodeDecision}
 use Rattle.tv_core.specs.Ends.{CheckDecides, IsOfCommand, IsVerdictOn, NeedsCertificate, TakesAtMost}
-use Rattle.tv_core.specs.Files.{AreOf, IsLeftToRead, JudgesWith, JudgesRead, JudgesFiles, ReadsFile, ReadsAfter, ReadsSource, ReadsFiles}
+use Rattle.tv_core.specs.Files.{AreOf, IsLeftToRead, JudgesWith, JudgesFiles, ReadsCertificate, ReadsFile, ReadsSource, ReadsFiles}
 use Rattle.tv_core.proofs.Aligned.{some_called, some_listed}
 use Rattle.tv_core.proofs.HandedOut.{answers_searched, answers_over}
 use Rattle.tv_core.proofs.Judging.{some_text}
@@ -183,17 +183,13 @@ of_command elf c (Check job) text decision h = of_check elf c job text decision 
 of_command elf c (Show job) text decision h = of_show elf c job decision h
 
 -- of what was read of both
-pub judged_files : (files : Contents) (command : Command) (elf c : List ℕ) (decision : Decision) → AreOf files (asked_of command).elf MAX_ELF_BYTES elf
-    → length elf ≤ MAX_ELF_BYTES → AreOf files (asked_of command).source MAX_C_BYTES c → JudgesRead files elf c command decision → JudgesFiles files command decision
-judged_files files command elf c decision elf_read small c_read (inl large) =
-    subst (JudgesFiles files command) (sym large.1) (c_too_large files command elf c elf_read small c_read large.0, c_of_command command)
-judged_files files command elf c decision elf_read small c_read (inr h) =
-    (files_judged files command elf c elf_read small c_read decision h.0 h.1, of_command elf c command h.1.0 decision h.1.2)
+module _ (files : Contents) (command : Command) (elf c : List ℕ) (elf_read : AreOf files (asked_of command).elf MAX_ELF_BYTES elf) (small : length elf ≤ MAX_ELF_BYTES)
+    (c_read : AreOf files (asked_of command).source MAX_C_BYTES c) where
+  pub source_too_large : MAX_C_BYTES < length c → JudgesFiles files command (plain (TooLarge C))
+  source_too_large large = (c_too_large files command elf c elf_read small c_read large, c_of_command command)
 
-pub judged_read : (files : Contents) (elf c : List ℕ) (command : Command) (r : Result CodeDecision (Refusal OutsideFault)) → length c ≤ MAX_C_BYTES
-    → IfOk r (λ d. JudgesWith files elf c command (decision_of d)) → IfOk r (λ d. JudgesRead files elf c command (decision_of d))
-judged_read files elf c command r small h =
-    IfOk-weaker r (λ d. JudgesWith files elf c command (decision_of d)) (λ d. JudgesRead files elf c command (decision_of d)) (λ d judged. inr (small, judged)) h
+  pub judged_files : (decision : Decision) → length c ≤ MAX_C_BYTES → JudgesWith files elf c command decision → JudgesFiles files command decision
+  judged_files decision short h = (files_judged files command elf c elf_read small c_read decision short h, of_command elf c command h.0 decision h.2)
 
 -- ---- one call after the other
 
@@ -223,13 +219,10 @@ module _ (command : Command) (before middle now : DeskState) (files : middle.fil
 
   -- the certificate after the source
   pub then_certificate : (elf c : List ℕ) → AreOf before.files (asked_of command).elf MAX_ELF_BYTES elf → length elf ≤ MAX_ELF_BYTES
-      → AreOf before.files (asked_of command).source MAX_C_BYTES c → TakesAtMost before.files (asked_of command).source (MAX_C_BYTES + 1) before.left middle.left
-      → middle.opened ≡ with_name before.opened (asked_of command).source → ReadsAfter elf c command middle now → ReadsSource command elf before now
-  then_certificate elf c elf_of small c_of first opened (inl same) = record {
-    taken = inl (taken_still before.files (asked_of command).source (MAX_C_BYTES + 1) before.left middle.left now.left first same.0);
-    opened = inr (small, inl (same.1 ∙ opened));
-  }
-  then_certificate elf c elf_of small c_of first opened (inr (c_small, read)) = record {
+      → AreOf before.files (asked_of command).source MAX_C_BYTES c → length c ≤ MAX_C_BYTES
+      → TakesAtMost before.files (asked_of command).source (MAX_C_BYTES + 1) before.left middle.left
+      → middle.opened ≡ with_name before.opened (asked_of command).source → ReadsCertificate elf c command middle now → ReadsSource command elf before now
+  then_certificate elf c elf_of small c_of c_small first opened read = record {
     taken = elim read.taken [
       | inl e ↦ inl (taken_still before.files (asked_of command).source (MAX_C_BYTES + 1) before.left middle.left now.left first e)
       | inr t ↦ elim (taken_after (asked_of command).source t.0 (MAX_C_BYTES + 1) (MAX_CERTIFICATE_BYTES + 1) first t.2) [ inl e ↦ inl e | inr u ↦ inr (t.0, t.1, u) ]

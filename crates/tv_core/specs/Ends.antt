@@ -32,11 +32,6 @@ abbrev pub AskFor : (words : List (List ℕ)) → Option Command → Type 0
 AskFor words (Some command) = IsCommand words command
 AskFor words None = IsUsageError words
 
--- the name of the certificate that is asked for; without one the empty name
-abbrev pub certificate_name : Option Command → List ℕ
-certificate_name (Some command) = (asked_of command).certificate
-certificate_name None = []
-
 -- ---- what is decided
 
 -- functions were searched, one at least: the certificate, within its maximum, is written, and each function that is called

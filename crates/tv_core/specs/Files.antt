@@ -3,8 +3,6 @@ use Rattle.std.specs.Prelude.{◌≡◌, ◌≤◌, ◌<◌, ◌+◌, ◌⊎◌,
 use Rattle.std.specs.Global.{Global}
 use Rattle.elf_read_spec.specs.Image.{Image}
 use Rattle.elf_read_spec.specs.File.{IsElf}
-use Rattle.tv_limits.specs.declared.Quantity.TheVariants.{C}
-use Rattle.report_text_spec.specs.Verdict.{TooLarge}
 use Rattle.tv_limits.specs.declared.TheConstants.{MAX_ELF_BYTES, MAX_C_BYTES, MAX_CERTIFICATE_BYTES}
 use Rattle.attempt.specs.declared.refusal.Refusal.{Refusal}
 use Rattle.attempt.specs.declared.refusal.Refusal.TheVariants.{NoMemory}
@@ -13,7 +11,7 @@ use Rattle.tv_base.specs.Faults.{HasCause}
 use Rattle.tv_base.specs.Reading.{with_name}
 use Rattle.c_types_spec.specs.Core.{Typed}
 use Rattle.tv_words.specs.Commands.{Command}
-use Rattle.tv_core_spec.specs.Decisions.{Decision, plain}
+use Rattle.tv_core_spec.specs.Decisions.{Decision}
 use Rattle.tv_core_spec.specs.Verdicts.{Pairs, IsSound, Judges}
 use Rattle.tv_core.specs.Tasks.{asked_of, task_of}
 use Rattle.tv_core.specs.Objects.{Contents, DeskState}
@@ -52,11 +50,6 @@ abbrev pub JudgesWith : Contents → (elf c : List ℕ) → Command → Decision
 JudgesWith files elf c command decision =
     (text : List ℕ) × IsText files (asked_of command).given text × Judges elf c (task_of command text) decision × IsSound elf c (task_of command text) decision.verdict
 
--- of the bytes that were read of a source, where the executable is within its maximum
-abbrev pub JudgesRead : Contents → (elf c : List ℕ) → Command → Decision → Type 0
-JudgesRead files elf c command decision =
-    ((MAX_C_BYTES < length c) × (decision ≡ plain (TooLarge C))) ⊎ ((length c ≤ MAX_C_BYTES) × JudgesWith files elf c command decision)
-
 -- of the files of a desk
 abbrev pub JudgesFiles : Contents → Command → Decision → Type 0
 JudgesFiles files command decision = IsVerdictOn files command decision × IsOfCommand command decision
@@ -73,12 +66,6 @@ pub record ReadsCertificate (elf c : List ℕ) (command : Command) (before now :
       ⊎ ((name : List ℕ) × ((asked_of command).given ≡ Some name) × TakesAtMost before.files name (MAX_CERTIFICATE_BYTES + 1) before.left now.left)
   pub opened : (now.opened ≡ before.opened)
       ⊎ ((name : List ℕ) × ((asked_of command).given ≡ Some name) × (now.opened ≡ with_name before.opened name) × IsLeftToRead elf c command)
-
--- of an executable and a source, of which so many bytes were read: the certificate is read only where the source is within
--- its maximum
-abbrev pub ReadsAfter : (elf c : List ℕ) → Command → (before now : DeskState) → Type 0
-ReadsAfter elf c command before now =
-    ((now.left ≡ before.left) × (now.opened ≡ before.opened)) ⊎ ((length c ≤ MAX_C_BYTES) × ReadsCertificate elf c command before now)
 
 -- what a command decides of an executable of this image and a source; its certificate is read, if it is needed
 pub record JudgesBy (image : Image) (c : List ℕ) (command : Command) (before now : DeskState) (result : Result CodeDecision (Refusal OutsideFault)) : Type 0 where

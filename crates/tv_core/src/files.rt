@@ -3,8 +3,8 @@ ghost use Rattle.tv_limits.specs.declared.TheConstants.{MAX_ELF_BYTES as ELF_BYT
 ghost use Rattle.tv_words.specs.Jobs.{job_of};
 ghost use Rattle.tv_core.specs.Tasks.{asked_of};
 ghost use Rattle.tv_core.specs.Decisions.{decision_of};
-ghost use Rattle.tv_core.specs.Files.{KeepsDesk, AreOf, ReadsFile, JudgesRead, JudgesFiles};
-ghost use Rattle.tv_core.specs.Files.{ReadsAfter, ReadsFiles, ReadsSource};
+ghost use Rattle.tv_core.specs.Files.{KeepsDesk, AreOf, ReadsFile, JudgesFiles, ReadsFiles};
+ghost use Rattle.tv_core.specs.Files.{ReadsSource};
 
 use crate::decision::{Decision, plain};
 use crate::judge::judge;
@@ -54,27 +54,6 @@ pub(crate) fn read_file<D: Desk>(
     }
 }
 
-/// The verdict on what was read of two files, of which the executable is within its maximum.
-fn judge_read<D: Desk, N: Notes>(
-    alloc: Global,
-    job: &Job<'_>,
-    elf: &[u8],
-    source: &[u8],
-    desk: &mut D,
-    notes: &mut N,
-) -> Result<Decision, Refusal<OutsideFault>>
-    ensures judged { IfOk result (λ decision. JudgesRead (D.state desk.old).files elf.now source.now
-        (job_of job.now) (decision_of decision)) }
-    ensures reads { ReadsAfter elf.now source.now (job_of job.now) (D.state desk.old)
-        (D.state desk.new) }
-    ensures kept { KeepsDesk (D.state desk.old) (D.state desk.new) result }
-{
-    if source.len() > MAX_C_BYTES {
-        return Ok(plain(alloc, Verdict::TooLarge(Quantity::C)));
-    }
-    judge(alloc, elf, source, job, desk, notes)
-}
-
 /// The verdict on the files of a job, of which the executable is read. It reads the source.
 fn judge_with_elf<D: Desk, N: Notes>(
     alloc: Global,
@@ -93,7 +72,12 @@ fn judge_with_elf<D: Desk, N: Notes>(
         return Ok(plain(alloc, Verdict::TooLarge(Quantity::Elf)));
     }
     match read_file(alloc, desk, source_name(job), MAX_C_BYTES) {
-        Ok(source) => judge_read(alloc, job, elf, source.as_slice(), desk, notes),
+        Ok(source) => {
+            if source.len() > MAX_C_BYTES {
+                return Ok(plain(alloc, Verdict::TooLarge(Quantity::C)));
+            }
+            judge(alloc, elf, source.as_slice(), job, desk, notes)
+        }
         Err(fault) => Err(fault),
     }
 }

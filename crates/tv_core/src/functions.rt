@@ -18,7 +18,7 @@ ghost use Rattle.tv_words.specs.Jobs.{job_of};
 ghost use Rattle.tv_core.specs.Files.{AreOf, BeginsFile, KeepsDesk};
 ghost use Rattle.tv_core.specs.Decisions.{decision_of, trails_of};
 ghost use Rattle.tv_core.specs.Listed.{AnswersPaired, IsCertificateDecision};
-ghost use Rattle.tv_core.specs.Listed.{IsCertificateVerdict, IsOfOutcome, IsRefusal, JudgesAll};
+ghost use Rattle.tv_core.specs.Listed.{IsCertificateVerdict, IsOfOutcome, IsRefusal};
 ghost use Rattle.tv_core.specs.Listed.{JudgesList, Shows, decided, decided_by, judged};
 ghost use Rattle.tv_core.specs.Listed.{judgement_on};
 ghost use Rattle.tv_core.specs.Functions.{IsListed};
@@ -126,24 +126,6 @@ fn decide(
             trails,
         }),
     }
-}
-
-/// What `prove` decides of the functions of a list with pairs: a function is valid where a search
-/// finds a proof of it.
-fn judge_all<N: Notes>(
-    alloc: Global,
-    image: &Image<'_>,
-    unit: &Typed<'_>,
-    list: &[&[u8]],
-    pairs: &Pairs,
-    notes: &mut N,
-) -> Result<Decision, AllocError>
-    requires { CanRun image.now (typed_of unit.now) (texts_of list.now) pairs.now }
-    ensures { IfOk result (JudgesAll image.now (typed_of unit.now) (texts_of list.now)
-        (pairs_of (texts_of list.now) pairs.now)) }
-{
-    let search = attempt!(prove(alloc, image, unit, list, pairs, notes));
-    decide(alloc, list, pairs.functions.as_slice(), search)
 }
 
 /// The judgements that all functions of a list are valid.
@@ -288,7 +270,10 @@ fn judge_paired<D: Desk, N: Notes>(
         (pairs_of (texts_of list.now) pairs.now) (D.state desk.old) (D.state desk.new) result }
 {
     match job {
-        Job::Prove(_) => from_memory(judge_all(alloc, image, unit, list, pairs, notes)),
+        Job::Prove(_) => match prove(alloc, image, unit, list, pairs, notes) {
+            Ok(search) => from_memory(decide(alloc, list, pairs.functions.as_slice(), search)),
+            Err(_) => Err(Refusal::NoMemory),
+        },
         Job::Check(job) => check_all(alloc, image, unit, list, pairs, job.certificate, desk),
         Job::Show(_) => plain_from_memory(
             alloc,

@@ -11,6 +11,7 @@ mod judge;
 mod listing;
 mod publish;
 mod running;
+mod source;
 
 pub use prove_run::{Measure, Side, Trail, Trails};
 pub use running::run;

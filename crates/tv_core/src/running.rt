@@ -1,13 +1,11 @@
-ghost use Rattle.std.specs.Prelude.{◌≡◌, ℕ, List, IfOk, OnErr, IsErrOf, map};
+ghost use Rattle.std.specs.Prelude.{◌≡◌, ℕ, List, IfOk, OnErr, map};
 ghost use Rattle.std.specs.Prelude.{option_map, string_bytes};
-ghost use Rattle.attempt.specs.declared.refusal.Refusal.TheVariants.{NoMemory};
 ghost use Rattle.tv_words.specs.Jobs.{job_of};
 ghost use Rattle.report_text_spec.specs.Verdict.{status_of};
 ghost use Rattle.tv_core.specs.Decisions.{decision_of, trails_of};
 ghost use Rattle.tv_core.specs.Objects.{state_of, outputs_of};
-ghost use Rattle.tv_core.specs.Ends.{AskFor, IsOutcome, certificate_name, Publishes, RunsTo};
-ghost use Rattle.tv_core.specs.Ends.{Ends};
-ghost use Rattle.tv_core.specs.Files.{KeepsDesk, ReadsAsked};
+ghost use Rattle.tv_core.specs.Ends.{AskFor, Ends, Publishes, RunsTo};
+ghost use Rattle.tv_core.specs.Tasks.{asked_of};
 
 use crate::decision::{Decision, plain};
 use crate::files::judge_files;
@@ -15,54 +13,30 @@ use crate::publish::publish;
 use attempt::Refusal;
 use prove_run::Trails;
 use report_text::{Verdict, status};
-use std::alloc::Global;
+use std::alloc::{AllocError, Global};
 use tv_base::{Desk, Notes, OutsideFault, Sink, Store};
 use tv_core_spec::{one_verdict, proved_is_checked, unproved_is_missing};
 use tv_words::{Job, WordsFault, command};
 
 /// What the words ask for, or `None` where they are no command.
-fn asked(alloc: Global, words: &[String]) -> Result<Option<Job<'_>>, Refusal<OutsideFault>>
-    ensures exact { IfOk result (λ job. AskFor (map string_bytes words.now)
-        (option_map job_of job)) }
-    ensures memory { OnErr result (IsErrOf result NoMemory) }
+fn asked(alloc: Global, words: &[String]) -> Result<Option<Job<'_>>, AllocError>
+    ensures { IfOk result (λ job. AskFor (map string_bytes words.now) (option_map job_of job)) }
 {
     match command(alloc, words) {
         Ok(job) => Ok(Some(job)),
         Err(Refusal::Fault(WordsFault::Words)) => Ok(None),
-        Err(Refusal::NoMemory) => Err(Refusal::NoMemory),
-    }
-}
-
-/// The outcome of a job, or of words that are no command.
-fn outcome<D: Desk, N: Notes>(
-    alloc: Global,
-    job: &Option<Job<'_>>,
-    desk: &mut D,
-    notes: &mut N,
-) -> Result<Decision, Refusal<OutsideFault>>
-    ensures exact { IfOk result (λ decision. (words : List (List ℕ))
-        → AskFor words (option_map job_of job.now)
-        → IsOutcome words (D.state desk.old).files (certificate_name (option_map job_of job.now))
-        (decision_of decision)) }
-    ensures reads { (words : List (List ℕ)) → AskFor words (option_map job_of job.now)
-        → ReadsAsked words (D.state desk.old) (D.state desk.new) }
-    ensures kept { KeepsDesk (D.state desk.old) (D.state desk.new) result }
-{
-    match job {
-        Some(job) => judge_files(alloc, job, desk, notes),
-        None => Ok(plain(alloc, Verdict::RefusedWords)),
+        Err(Refusal::NoMemory) => Err(AllocError),
     }
 }
 
 /// The name of the certificate that is asked for; without one the empty name.
-fn name_of<'a>(job: &Option<Job<'a>>) -> &'a str
-    ensures { result.now ≡ certificate_name (option_map job_of job.now) }
+fn name_of<'a>(job: &Job<'a>) -> &'a str
+    ensures { result.now ≡ (asked_of (job_of job.now)).certificate }
 {
     match job {
-        Some(Job::Prove(job)) => job.certificate,
-        Some(Job::Check(_)) => "",
-        Some(Job::Show(_)) => "",
-        None => "",
+        Job::Prove(job) => job.certificate,
+        Job::Check(_) => "",
+        Job::Show(_) => "",
     }
 }
 
@@ -108,29 +82,15 @@ fn run_job<D: Desk, R: Sink, K: Store, N: Notes>(
         (state_of (D.state desk.new) (R.state report.new) (K.state certificate.new))
         (trails_of trails.old) (trails_of trails.new) result }
 {
-    match outcome(alloc, job, desk, notes) {
-        Ok(decision) => give(alloc, name_of(job), decision, report, certificate, trails),
-        Err(fault) => Err(fault),
-    }
-}
-
-/// A run up to its status, or to what cut it off.
-fn try_run<D: Desk, R: Sink, K: Store, N: Notes>(
-    alloc: Global,
-    words: &[String],
-    desk: &mut D,
-    report: &mut R,
-    certificate: &mut K,
-    trails: &mut Trails,
-    notes: &mut N,
-) -> Result<u8, Refusal<OutsideFault>>
-    ensures { RunsTo (map string_bytes words.now) (state_of (D.state desk.old) (R.state report.old)
-        (K.state certificate.old)) (state_of (D.state desk.new) (R.state report.new)
-        (K.state certificate.new)) (trails_of trails.old) (trails_of trails.new) result }
-{
-    match asked(alloc, words) {
-        Ok(job) => run_job(alloc, &job, desk, report, certificate, trails, notes),
-        Err(fault) => Err(fault),
+    match job {
+        Some(job) => match judge_files(alloc, job, desk, notes) {
+            Ok(decision) => give(alloc, name_of(job), decision, report, certificate, trails),
+            Err(fault) => Err(fault),
+        },
+        None => {
+            let decision = plain(alloc, Verdict::RefusedWords);
+            give(alloc, "", decision, report, certificate, trails)
+        }
     }
 }
 
@@ -181,9 +141,12 @@ pub fn run<D: Desk, R: Sink, K: Store, N: Notes>(
     proved_is_checked();
     unproved_is_missing();
     *trails = Trails::new(alloc);
-    match try_run(alloc, words, desk, report, certificate, trails, notes) {
-        Ok(code) => code,
-        Err(Refusal::Fault(OutsideFault::Failed)) => 4,
-        Err(Refusal::NoMemory) => 5,
+    match asked(alloc, words) {
+        Ok(job) => match run_job(alloc, &job, desk, report, certificate, trails, notes) {
+            Ok(code) => code,
+            Err(Refusal::Fault(OutsideFault::Failed)) => 4,
+            Err(Refusal::NoMemory) => 5,
+        },
+        Err(_) => 5,
     }
 }

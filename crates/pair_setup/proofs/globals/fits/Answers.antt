@@ -1,5 +1,5 @@
 use Rattle.std.proofs.Common.{◌≡◌, ◌∙◌, ◌≤◌, Option, ℕ, sym, ap}
-use Rattle.std.specs.Prelude.{◌↔◌, IfSome, IsTrue}
+use Rattle.std.specs.Prelude.{◌↔◌, IsSomeAnd, IsTrue}
 use Rattle.c_types_spec.specs.declared.TheConstants.{SIZE_LIMIT}
 use Rattle.pair_setup_spec.specs.Faults.{HasSize}
 use Rattle.c_types_spec.specs.Types.{size_of}
@@ -18,7 +18,7 @@ pub returns : goal.returns
 returns c =
     matched-ok c.is_sized.result (λ sized. (full : Option ℕ) → c.size-size.result ≡ capped full → (IsTrue sized ↔ HasSize c.args.image.now c.args.name.now (known_size full)))
     (λ sized. IsTrue sized ↔ HasSize c.args.image.now c.args.name.now (global_size (structs_of c.args.unit.now.structs.items) (type_of c.args.of.now)))
-    (λ _. IfSome c.size-size.result (λ n. SIZE_LIMIT ≤ n))
+    (λ _. IsSomeAnd c.size-size.result (λ n. SIZE_LIMIT ≤ n))
     (λ sized h. sized-known c.args.image.now c.args.name.now (structs_of c.args.unit.now.structs.items) (type_of c.args.of.now) sized (sym c.is_open_array.ensures ∙ c.if-is_open_array.false)
     (h (size_of (structs_of c.args.unit.now.structs.items) (type_of c.args.of.now))
     (c.size-size.ensures ∙ ap (λ l. capped (size_of (structs_of l) (type_of c.args.of.now))) c.as_slice.ensures.value)))

@@ -1,7 +1,0 @@
-use Rattle.tv_core_spec.specs.Source.{no_tokens}
-use Rattle.tv_core_spec.specs.Verdicts.{c_refused}
-use Rattle.tv_core.proofs.judge.without_tokens.Goals as goal
-
-pub returns-in-Fault-clause-exact : goal.returns-in-Fault-clause-exact
-returns-in-Fault-clause-exact c =
-    λ elf c' task image is_elf h. c_refused image _ _ is_elf (no_tokens c.in-Fault.fault.kind c.in-Fault.fault.offset (rw c.in-Fault.is at h))
