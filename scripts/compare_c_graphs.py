@@ -231,6 +231,11 @@ class State(dict):
         return False if name[0] == "s" else (0, int(name.partition("w")[2] or 32))
 
 
+def shared(state):
+    """What caller and callee share: the memory, and the ends of the barred zone."""
+    return {name: state[name] for name in ("m", "z0", "z1")}
+
+
 def run(graphs, number, state):
     """The last state, or None where the run fails; `...` where it takes too long."""
     at, waiting = "0", []
@@ -241,11 +246,9 @@ def run(graphs, number, state):
             if not waiting:
                 return state
             number, before, taken, at = waiting.pop()
-            memory = state["m"]
-            made = bind(taken, state)
+            made = {**shared(state), **bind(taken, state)}
             state = State(before)
             state.update(made)
-            state["m"] = memory
             continue
         here = graphs[number][int(at)]
         if here[0] == "basic":
@@ -257,8 +260,7 @@ def run(graphs, number, state):
         else:
             made = bind(here[2], state)
             waiting.append((number, state, here[3], here[4]))
-            made["m"] = state["m"]
-            number, state, at = here[1], State(made), "0"
+            number, state, at = here[1], State({**shared(state), **made}), "0"
     return ...
 
 

@@ -4,11 +4,11 @@
     scripts/compare_conditions.py            random graphs
     scripts/compare_conditions.py compiled   graphs of compiled functions (Debian: gcc-riscv64-unknown-elf)
 
-It is run outside the gate, after `rt run` in crates/walk_rows, whose program gives the answers. Each graph is
+It is run outside the gate, after `rt run` in crates/proof_rows, whose program gives the answers. Each graph is
 run here from random states: a visit's condition has to be true exactly where the run goes through the visit, and the
 values have to be those of the state there; so with all visits of a stop, of a bound, that return and that fail, as one.
 Each answer has to be, byte for byte, what is worked out here. In graphs of compiled functions the terms keep their
-variables, and of their operators those that `walk_rows` can write; another is a sum.
+variables, and of their operators those that `proof_rows` can write; another is a sum.
 """
 
 import random
@@ -18,7 +18,7 @@ import tempfile
 from pathlib import Path
 
 TOP = Path(__file__).resolve().parent.parent
-PROGRAM = TOP / "crates/walk_rows/out/walk_rows"
+PROGRAM = TOP / "crates/proof_rows/out/proof_rows"
 LETTERS = "abcdefghijklmnopqrstuvwxyzABCDGHIJKLMNOPQSUVWXYZ@$%^*()-_~.[]{}"
 LONGEST = 20000
 QUESTIONS = ("stops", "bounds", "returns", "failures")
@@ -417,13 +417,13 @@ def compiled_cases(folder):
 
 
 def asked(questions):
-    """What `walk_rows` finds."""
+    """What `proof_rows` finds."""
     # a row whose answer is empty is printed with what was found
     rows = "".join(f"{question} = \n" for question in questions)
     ran = subprocess.run([str(PROGRAM)], input=rows, capture_output=True, text=True)
     lines = [line for line in ran.stdout.splitlines() if ": found " in line]
     if len(lines) != len(questions):
-        sys.exit(f"walk_rows answered {len(lines)} of {len(questions)} rows: {ran.stdout[-500:]}{ran.stderr[-2000:]}")
+        sys.exit(f"proof_rows answered {len(lines)} of {len(questions)} rows: {ran.stdout[-500:]}{ran.stderr[-2000:]}")
     return [line.split(" = : found ", 1)[1] for line in lines]
 
 

@@ -5,7 +5,7 @@
     scripts/compare_obligations.py compiled   graphs of compiled functions, of one function at two levels
                                               (Debian: gcc-riscv64-unknown-elf)
 
-It is run outside the gate, after `rt run` in crates/walk_rows, whose program gives the obligations. For each frame both
+It is run outside the gate, after `rt run` in crates/proof_rows, whose program gives the obligations. For each frame both
 sides are run here from random states, in which each obligation has to be true exactly where what it says of the runs is:
 under the premises, with no bound broken and no failure of the source, that the binary doesn't fail, that it comes to a
 stop to which the source comes, and that the relation holds where both are at one stop; that an arrival doesn't come; that

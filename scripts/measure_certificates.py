@@ -1,7 +1,7 @@
 #!/usr/bin/env python3
 """Measures how fast certificates are read and written, and the memory that they take. It is run outside the gate.
 
-    scripts/measure_certificates.py [PROGRAM]      the program `cert_rows`, or what `rt run` has built in its crate
+    scripts/measure_certificates.py [PROGRAM]      the program `proof_rows`, or what `rt run` has built in its crate
 
 Each row is a certificate of about 64 MiB that repeats one kind of line; the program makes its text from a row, reads
 it, writes it again and compares the two. Seconds are those of all this, less those of making the text. The memory
@@ -16,7 +16,7 @@ import time
 from pathlib import Path
 
 ROOT = Path(__file__).resolve().parent.parent
-PROGRAM = Path(sys.argv[1]) if len(sys.argv) > 1 else ROOT / "crates/cert_rows/out/cert_rows"
+PROGRAM = Path(sys.argv[1]) if len(sys.argv) > 1 else ROOT / "crates/proof_rows/out/proof_rows"
 SIZE = 64 << 20
 FRONT = "tv-cert 1|function f stack 0|"
 

@@ -1,7 +1,7 @@
 #!/usr/bin/env python3
 """Measures seconds and peak memory of visits, conditions and states of large graphs. It is run outside the gate.
 
-    scripts/measure_conditions.py [PROGRAM]      the program `walk_rows`, or what `rt run` has built in its crate
+    scripts/measure_conditions.py [PROGRAM]      the program `proof_rows`, or what `rt run` has built in its crate
 
 Each row is a run of the program on one graph, reading it included; conditions aren't printed, only how many visits there
 are and how many terms the bank has once it has all conditions and states.

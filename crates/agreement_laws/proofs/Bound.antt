@@ -12,15 +12,14 @@ use Rattle.decompile_spec.specs.State.{register, entry_register}
 use Rattle.decompile_spec.specs.InstructionTerms.{number}
 use Rattle.decompile_spec.specs.Blocks.{entry_binding, other_registers, call_inputs, tail_inputs}
 use Rattle.c_types_spec.specs.declared.Scalar.{Scalar}
-use Rattle.c_types_spec.specs.Core.{Core, type_of}
 use Rattle.c_graph_spec.specs.State.{local, is_set, zone_low, zone_high, memory}
-use Rattle.c_graph_spec.specs.Layout.{Setting, binding, value_in, inputs}
-use Rattle.c_graph_laws.proofs.Changes.{bound_here, bound_there, bound_none, apart_set, set_no_local}
+use Rattle.c_graph_spec.specs.Layout.{binding}
+use Rattle.c_graph_laws.proofs.Changes.{bound_here, bound_there, bound_none, truth_is, apart_set, set_no_local}
 use Rattle.c_graph_laws.proofs.Spared.{Spares, spared}
-use Rattle.c_graph_laws.proofs.KeptBytes.{inputs_spare}
 use Rattle.sim_rules_spec.specs.Points.{binary_memory}
 use Rattle.sim_rules_spec.proofs.Truths.{all_pass}
 use Rattle.agreement_laws.specs.EntryFrame.{registers}
+use Rattle.agreement_laws.specs.Callers.{IsPassed}
 use Rattle.agreement_laws.proofs.Arguments.{Flags}
 use Rattle.agreement_laws.proofs.Premises.{all_more}
 use Rattle.agreement_laws.proofs.ReadBack.{open_value}
@@ -147,65 +146,49 @@ module _ (x : Assignment) where
 
 -- ---- in C
 
-module _ (f : Setting) (y : Assignment) where
+module _ (y : Assignment) where
   -- what no argument binds
-  skipped : (u : Variable) → ((n : ℕ) (type : Scalar) → u ≢ local n type) → ((n : ℕ) → u ≢ is_set n) → (number : ℕ) (arguments : List Core) (rest : Assignment)
-      → bound (inputs f number arguments) y rest u ≡ bound (inputs f number []) y rest u
-  unfolding inputs
-  skipped u a b number [] rest = refl
-  skipped u a b number (x ∷ arguments) rest =
-      bound_there y u (local number (type_of x)) (value_in f x) (binding (is_set number) (truth true) ∷ inputs f (suc number) arguments) rest (a number (type_of x))
-      ∙ bound_there y u (is_set number) (truth true) (inputs f (suc number) arguments) rest (b number) ∙ skipped u a b (suc number) arguments rest
-
-  low_input : (number : ℕ) (rest : Assignment) → bound (inputs f number []) y rest zone_low ≡ y zone_low
-  unfolding inputs value
-  low_input number rest = bound_here y zone_low (open_term zone_low) (binding zone_high (open_term zone_high) ∷ []) rest
-
-  high_input : (number : ℕ) (rest : Assignment) → bound (inputs f number []) y rest zone_high ≡ y zone_high
-  unfolding inputs value
-  high_input number rest =
-      bound_there y zone_high zone_low (open_term zone_low) (binding zone_high (open_term zone_high) ∷ []) rest (λ e. let q : 1 ≡ 0 = ap (λ (v : Variable). v.index) e in omega arith)
-      ∙ bound_here y zone_high (open_term zone_high) [] rest
-
-  no_flag : (number i : ℕ) (rest : Assignment) → bound (inputs f number []) y rest (is_set i) ≡ rest (is_set i)
-  unfolding inputs
-  no_flag number i rest =
-      bound_there y (is_set i) zone_low (open_term zone_low) (binding zone_high (open_term zone_high) ∷ []) rest (λ e. let q = ap (λ (v : Variable). v.family) e in cc)
-      ∙ bound_there y (is_set i) zone_high (open_term zone_high) [] rest (λ e. let q = ap (λ (v : Variable). v.family) e in cc) ∙ bound_none y (is_set i) rest
+  skipped : (u : Variable) → ((n : ℕ) (type : Scalar) → u ≢ local n type) → ((n : ℕ) → u ≢ is_set n) → (number : ℕ) (types : List Scalar) (inputs : List Binding) (rest : Assignment)
+      → IsPassed number types inputs → bound inputs y rest u ≡ rest u
+  skipped u a b number [] inputs rest is = ap (λ (list : List Binding). bound list y rest u) is ∙ bound_none y u rest
+  skipped u a b number (type ∷ types) inputs rest is =
+      ap (λ (list : List Binding). bound list y rest u) is.2
+      ∙ (bound_there y u (local number type) is.0 (binding (is_set number) (truth true) ∷ is.1) rest (a number type)
+      ∙ (bound_there y u (is_set number) (truth true) is.1 rest (b number) ∙ skipped u a b (suc number) types is.1 rest is.3))
 
   -- the flags from a number on, of values that agree with the inputs there
-  flags_from : (number : ℕ) (arguments : List Core) (rest : Assignment) → ((n : ℕ) → rest (is_set n) ≡ Truth false) → (others : List Scalar) (b : Assignment)
-      → ((n : ℕ) → number ≤ n → b (is_set n) ≡ bound (inputs f number arguments) y rest (is_set n)) → Flags b number (map type_of arguments) others
-  unfolding inputs value
-  flags_from number [] rest clear [] b agree = tt
-  flags_from number [] rest clear (other ∷ others) b agree = (
-    agree number (omega arith) ∙ no_flag number number rest ∙ clear number,
-    flags_from (suc number) [] rest clear others b (λ n less. agree n (omega arith) ∙ no_flag number n rest ∙ sym (no_flag (suc number) n rest)),
+  flags_from : (number : ℕ) (types : List Scalar) (inputs : List Binding) (rest : Assignment) → IsPassed number types inputs → ((n : ℕ) → rest (is_set n) ≡ Truth false)
+      → (others : List Scalar) (b : Assignment) → ((n : ℕ) → number ≤ n → b (is_set n) ≡ bound inputs y rest (is_set n)) → Flags b number types others
+  flags_from number [] inputs rest is clear [] b agree = tt
+  flags_from number [] inputs rest is clear (other ∷ others) b agree = (
+    agree number (omega arith) ∙ (ap (λ (list : List Binding). bound list y rest (is_set number)) is ∙ (bound_none y (is_set number) rest ∙ clear number)),
+    flags_from (suc number) [] inputs rest is clear others b (λ n less. agree n (omega (arith, less))),
   )
-  flags_from number (x ∷ arguments) rest clear others b agree = (
+  flags_from number (type ∷ types) inputs rest is clear others b agree = (
     agree number (omega arith)
-        ∙ bound_there y (is_set number) (local number (type_of x)) (value_in f x) (binding (is_set number) (truth true) ∷ inputs f (suc number) arguments) rest (set_no_local number number (type_of x))
-        ∙ bound_here y (is_set number) (truth true) (inputs f (suc number) arguments) rest,
-    flags_from (suc number) arguments rest clear others b (λ n less.
-        agree n (omega arith)
-        ∙ bound_there y (is_set n) (local number (type_of x)) (value_in f x) (binding (is_set number) (truth true) ∷ inputs f (suc number) arguments) rest (set_no_local n number (type_of x))
-        ∙ bound_there y (is_set n) (is_set number) (truth true) (inputs f (suc number) arguments) rest (apart_set n number (λ e. omega arith))),
+        ∙ (ap (λ (list : List Binding). bound list y rest (is_set number)) is.2
+        ∙ (bound_there y (is_set number) (local number type) is.0 (binding (is_set number) (truth true) ∷ is.1) rest (set_no_local number number type)
+        ∙ (bound_here y (is_set number) (truth true) is.1 rest ∙ truth_is y true))),
+    flags_from (suc number) types is.1 rest is.3 clear others b (λ n less.
+        agree n (omega (arith, less))
+        ∙ (ap (λ (list : List Binding). bound list y rest (is_set n)) is.2
+        ∙ (bound_there y (is_set n) (local number type) is.0 (binding (is_set number) (truth true) ∷ is.1) rest (set_no_local n number type)
+        ∙ bound_there y (is_set n) (is_set number) (truth true) is.1 rest (apart_set n number (λ e. omega (arith, less, e)))))),
   )
 
   abbrev own_values : Assignment
   own_values = λ v. if is_shared v then y v else unset v.sort
 
-  pub flags_begin : (arguments : List Core) (others : List Scalar) → Flags (entered (inputs f 0 arguments) y) 0 (map type_of arguments) others
-  flags_begin arguments others =
-      flags_from 0 arguments own_values (λ n. refl) others (entered (inputs f 0 arguments) y) (λ n less. refl)
+  module _ (types : List Scalar) (inputs : List Binding) (is : IsPassed 0 types inputs) where
+    pub flags_begin : (others : List Scalar) → Flags (entered inputs y) 0 types others
+    flags_begin others = flags_from 0 types inputs own_values is (λ n. refl) others (entered inputs y) (λ n less. refl)
 
-  pub low_begins : (arguments : List Core) → entered (inputs f 0 arguments) y zone_low ≡ y zone_low
-  low_begins arguments =
-      skipped zone_low (λ n t e. let q = ap (λ (v : Variable). v.family) e in cc) (λ n e. let q = ap (λ (v : Variable). v.family) e in cc) 0 arguments own_values ∙ low_input 0 own_values
+    -- memory and the ends of the zone are the caller's
+    pub low_begins : entered inputs y zone_low ≡ y zone_low
+    low_begins = skipped zone_low (λ n t e. let q = ap (λ (v : Variable). v.family) e in cc) (λ n e. let q = ap (λ (v : Variable). v.family) e in cc) 0 types inputs own_values is
 
-  pub high_begins : (arguments : List Core) → entered (inputs f 0 arguments) y zone_high ≡ y zone_high
-  high_begins arguments =
-      skipped zone_high (λ n t e. let q = ap (λ (v : Variable). v.family) e in cc) (λ n e. let q = ap (λ (v : Variable). v.family) e in cc) 0 arguments own_values ∙ high_input 0 own_values
+    pub high_begins : entered inputs y zone_high ≡ y zone_high
+    high_begins = skipped zone_high (λ n t e. let q = ap (λ (v : Variable). v.family) e in cc) (λ n e. let q = ap (λ (v : Variable). v.family) e in cc) 0 types inputs own_values is
 
-  pub memory_begins : (arguments : List Core) → entered (inputs f 0 arguments) y memory ≡ y memory
-  memory_begins arguments = spared memory (inputs f 0 arguments) (inputs_spare f 0 arguments) y own_values
+    pub memory_begins : entered inputs y memory ≡ y memory
+    memory_begins = skipped memory (λ n t e. let q = ap (λ (v : Variable). v.family) e in cc) (λ n e. let q = ap (λ (v : Variable). v.family) e in cc) 0 types inputs own_values is

@@ -19,12 +19,13 @@ use Rattle.c_types_spec.specs.declared.Scalar.{Scalar}
 use Rattle.c_graph_spec.specs.State.{local, is_set, zone_low, zone_high}
 use Rattle.c_graph_laws.proofs.Extents.{IsPlain, full, scalar}
 use Rattle.c_graph_laws.proofs.Sorted.{at_width_sorted}
+use Rattle.proof_tree_spec.specs.Frames.{Frame}
 use Rattle.sim_rules_spec.specs.Calling.{zone_from, at_entry}
 use Rattle.sim_rules_spec.specs.Rules.{at_cut}
 use Rattle.sim_rules_spec.specs.Proper.{Opens}
 use Rattle.sim_rules_spec.proofs.AtCut.{cuts_open}
 use Rattle.sim_rules_spec.proofs.Calling.{is_convention}
-use Rattle.agreement_laws.specs.EntryFrame.{Pair, Fact, given, convention_of, result_term, entry_frame, entry_opening, parameter, widened, argument_facts, registers, binary_facts, local_facts, zone_facts, source_facts}
+use Rattle.agreement_laws.specs.EntryFrame.{Pair, Fact, given, convention_of, result_term, entry_opening, parameter, widened, argument_facts, registers, binary_facts, local_facts, zone_facts, source_facts}
 use Rattle.agreement_laws.specs.Statements.{IsPair}
 use Rattle.agreement_laws.proofs.Opening.{opened}
 use Rattle.agreement_laws.proofs.Pairs.{plain, fixed_below}
@@ -84,10 +85,10 @@ given_sorted a ranged (fact ∷ facts) rest are others = λ v.
 plain_values : (a : Assignment) → IsAssignment a → IsAssignment (values_of a open_term)
 plain_values a ranged v = subst (IsOfSort v.sort) (sym (open_value a v)) (ranged v)
 
-pub entry_opens : (p : Pair) (zone : Zone) → IsPair p → p.stack < 2 ^ 32 → Opens (convention_of p zone) (entry_frame p) (entry_opening p zone)
-entry_opens p zone is small =
+pub entry_opens : (p : Pair) (zone : Zone) (f : Frame) → IsPair p → p.stack < 2 ^ 32 → Opens (convention_of p zone) f (entry_opening p zone)
+entry_opens p zone f is small =
     let convention = is_convention p.stack zone.low zone.high (result_term p.body.signature.result) (fixed_byte p.image) small (fixed_below p is) in
-    let cut = cuts_open (convention_of p zone) (entry_frame p) convention in
+    let cut = cuts_open (convention_of p zone) f convention in
     record {
       fixed_below = fixed_below p is;
       binary_sorts = λ a ranged. given_sorted a ranged (binary_facts p) (at_cut (convention_of p zone)).binary
@@ -97,5 +98,5 @@ entry_opens p zone is small =
           (All-append IsSortedFact (local_facts 0 p.body.signature.parameters p.body.locals) (zone_facts p.stack) (locals_sorted 0 p.body.signature.parameters p.body.locals)
           (one_fact zone_low (zone_from p.stack) (record { variable = zone_high; term = at_entry 2 } ∷ []) convention.from_word
           (one_fact zone_high (at_entry 2) [] convention.to_word (All-nil IsSortedFact)))) (plain_values a ranged);
-      opened = λ x y live_x live_y known fine_x fine_y at. opened p zone convention x y live_x live_y known fine_x fine_y at;
+      opened = λ x y live_x live_y known fine_x fine_y at. opened p zone f convention x y live_x live_y known fine_x fine_y at;
     }

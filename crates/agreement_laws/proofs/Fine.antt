@@ -16,7 +16,7 @@ use Rattle.elf_read_spec.specs.Image.{Image, fixed_byte}
 use Rattle.graph_core_spec.specs.Graph.{Node, Graphs, node_at}
 use Rattle.graph_core_spec.specs.Variables.{own_bindings}
 use Rattle.decompile_laws.specs.Together.{Numbering, Corresponds, corresponds, at_tail_landing, at_home, StepTogether, ReturnTogether, run}
-use Rattle.graph_core_spec.specs.Run.{State, Waiting, Running, Returned, Failed, has_failed, has_returned, is_shared, system_of}
+use Rattle.graph_core_spec.specs.Run.{State, Waiting, Running, Returned, Failed, has_failed, has_returned, is_shared, is_zone_end, system_of}
 use Rattle.graph_core_spec.specs.Fixed.{has_byte, holds_byte, AlwaysHoldsFixed}
 use Rattle.decompile_spec.specs.State.{Alike, entry_register}
 use Rattle.sim_rules_spec.specs.Points.{Convention, values_in, values_at, outermost_values, all_hold, binary_memory, source_memory, bounded, nothing, entry_zone, source_zone}
@@ -27,7 +27,8 @@ use Rattle.c_graph_spec.specs.SourceGraph.{body_number, graphs_of}
 use Rattle.sim_rules_spec.proofs.Truths.{pass_all}
 use Rattle.agreement_laws.specs.EntryFrame.{Pair, place_of, convention_of, entry_frame, entry_premises}
 use Rattle.agreement_laws.specs.Statements.{binary_entry, source_entry}
-use Rattle.c_graph_laws.proofs.OwnBindings.{no_zone}
+use Rattle.sim_inline_laws.proofs.Steady.{stays_so}
+use Rattle.agreement_laws.proofs.ZoneEnds.{never_bound}
 use Rattle.agreement_laws.proofs.Premises.{all_more, word_line, zone_holds}
 use Rattle.agreement_laws.proofs.ReadBack.{open_value}
 use Rattle.agreement_laws.proofs.Entry.{Never, Below, EntryIs, entry_stays}
@@ -154,19 +155,21 @@ module _ (p : Pair) (zone : Zone) (b : Assignment) (low : b zone_low ≡ Number 
   abbrev source_lines : List Term
   source_lines = source_zone (convention_of p zone)
 
-  stays : (k : ℕ) (s : State) → after (system_of graphs outermost) k (source_entry p b) ≡ s → has_failed s ≡ false → (u : Variable) → is_shared u ≡ false
-      → (x : Value) → b u ≡ x → ((n : ℕ) (node : Node) → node_at graphs outermost n ≡ Some node → Never u (own_bindings node)) → values_in s u ≡ x
-  stays k s e live u own x begins never = values_entry u own x graphs outermost never s
-      (subst (λ (t : State). EntryIs u own x graphs outermost never t) e (entry_stays u own x graphs outermost never k (source_entry p b) (refl, begins))) live
+  -- no node of the unit's graphs binds an end of the zone
+  stays : (k : ℕ) (s : State) → after (system_of graphs outermost) k (source_entry p b) ≡ s → has_failed s ≡ false → (u : Variable) → is_zone_end u ≡ true → is_shared u ≡ true
+      → (x : Value) → b u ≡ x → values_in s u ≡ x
+  stays k s e live u end shared x begins =
+      subst (λ (t : State). values_in t u ≡ x) e
+      (stays_so graphs u (never_bound p.unit (place_of p) u end shared) x outermost k 0 b begins (ap has_failed e ∙ live))
 
   zone_there : (k : ℕ) (s : State) → after (system_of graphs outermost) k (source_entry p b) ≡ s → has_failed s ≡ false → (at : ℕ) → all_hold source_lines at Failed s ≡ true
   zone_there k s e live at =
       let there : Assignment = values_at at Failed s in
       pass_all (λ (line : Term). holds there line) source_lines
       (all_more (λ (line : Term). holds there line ≡ true) (equal (open_term zone_low) (word zone.low)) (equal (open_term zone_high) (word zone.high) ∷ [])
-      (word_line there (open_term zone_low) zone.low (open_value there zone_low ∙ stays k s e live zone_low refl (Number W32 zone.low) low (λ n node at_n i d lt. (no_zone p.unit (place_of p) outermost n node at_n i d lt).0)))
+      (word_line there (open_term zone_low) zone.low (open_value there zone_low ∙ stays k s e live zone_low refl refl (Number W32 zone.low) low))
       (all_more (λ (line : Term). holds there line ≡ true) (equal (open_term zone_high) (word zone.high)) []
-      (word_line there (open_term zone_high) zone.high (open_value there zone_high ∙ stays k s e live zone_high refl (Number W32 zone.high) high (λ n node at_n i d lt. (no_zone p.unit (place_of p) outermost n node at_n i d lt).1)))
+      (word_line there (open_term zone_high) zone.high (open_value there zone_high ∙ stays k s e live zone_high refl refl (Number W32 zone.high) high))
       (λ i d lt. absurd (omega (arith, lt)))))
 
   pub always_source : (k at : ℕ) → source_always (convention_of p zone) at (after (system_of graphs outermost) k (source_entry p b)) ≡ true

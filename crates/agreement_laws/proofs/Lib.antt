@@ -4,6 +4,7 @@ pub mod Entry
 pub mod ReadBack
 pub mod Assigned
 pub mod Premises
+pub mod ZoneEnds
 pub mod Fine
 pub mod Facts
 pub mod Pairs

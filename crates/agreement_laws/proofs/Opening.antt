@@ -12,10 +12,11 @@ use Rattle.term_core_spec.specs.Term.{Term, equal, open_term}
 use Rattle.term_core_spec.specs.Value.{Value, Truth, Number, Bytes, Assignment, value, binary_value, equal_values, stray}
 use Rattle.term_core_spec.specs.Substitution.{State as Terms}
 use Rattle.path_cond_spec.specs.Passages.{holds}
-use Rattle.agreement_laws.specs.EntryFrame.{Pair, Fact, given, lines_of, convention_of, entry_opening, entry_frame, binary_facts, source_facts}
+use Rattle.agreement_laws.specs.EntryFrame.{Pair, Fact, given, lines_of, convention_of, entry_opening, binary_facts, source_facts}
 use Rattle.graph_core_spec.specs.Simulation.{IsRelated}
 use Rattle.graph_core_spec.specs.Run.{State, has_failed, is_truth}
 use Rattle.memory_spec.specs.Zones.{Zone}
+use Rattle.proof_tree_spec.specs.Frames.{Frame}
 use Rattle.sim_rules_spec.specs.Points.{values_at, values_in, other_values, with_memory, same_byte, binary_memory}
 use Rattle.sim_rules_spec.specs.Systems.{IsBinaryFine, IsSourceFine}
 use Rattle.sim_rules_spec.specs.Rules.{at_cut}
@@ -63,8 +64,8 @@ fact_value s fact h = equal_true (s fact.variable) (value s fact.term) h
 facts_values : (s : Assignment) (facts : List Fact) → All (FactHolds s) facts → All (λ (fact : Fact). value s fact.term ≡ s fact.variable) facts
 facts_values s facts all i d lt = fact_value s _ (all i d lt)
 
-module _ (p : Pair) (zone : Zone) (convention : IsConvention (convention_of p zone)) (x y : State) (live_x : has_failed x ≡ false) (live_y : has_failed y ≡ false) (known : IsRelated (entry_opening p zone).known x y)
-    (fine_x : IsBinaryFine (convention_of p zone) (entry_frame p) x) (fine_y : IsSourceFine (convention_of p zone) (entry_frame p) y) (at : ℕ) where
+module _ (p : Pair) (zone : Zone) (f : Frame) (convention : IsConvention (convention_of p zone)) (x y : State) (live_x : has_failed x ≡ false) (live_y : has_failed y ≡ false) (known : IsRelated (entry_opening p zone).known x y)
+    (fine_x : IsBinaryFine (convention_of p zone) f x) (fine_y : IsSourceFine (convention_of p zone) f y) (at : ℕ) where
   abbrev s : Assignment
   s = values_at at x y
 
@@ -76,7 +77,7 @@ module _ (p : Pair) (zone : Zone) (convention : IsConvention (convention_of p zo
       (all_left (λ (line : Term). holds s line ≡ true) (lines_of (binary_facts p ++ source_facts p)) (same_byte (convention_of p zone) ∷ []) (lines_at at))
 
   at_the_cut : IsOpened (at_cut (convention_of p zone)) at x y
-  at_the_cut = (cuts_open (convention_of p zone) (entry_frame p) convention).opened x y live_x live_y
+  at_the_cut = (cuts_open (convention_of p zone) f convention).opened x y live_x live_y
       (λ q. pass_all (λ (line : Term). holds (values_at q x y) line) (same_byte (convention_of p zone) ∷ [])
       (all_right (λ (line : Term). holds (values_at q x y) line ≡ true) (lines_of (binary_facts p ++ source_facts p)) (same_byte (convention_of p zone) ∷ []) (lines_at q)))
       fine_x fine_y at

@@ -7,6 +7,7 @@ use Rattle.std.proofs.Math.Path.{fun_ext}
 use Rattle.std.proofs.Math.Nat.{mod-eq_of_lt}
 use Rattle.std.proofs.lemmas.Bool.{cases_Bool, cases_lt, or_cases, and_parts, lt-ltb, ltb-true, leb-true, eqb-true}
 use Rattle.std.proofs.lemmas.Nat.{and_mask}
+use Rattle.std.proofs.lemmas.Option.{slice_get_within}
 use Rattle.std.proofs.lemmas.List.Elements.{All-head, All-tail, All-contains}
 use Rattle.memory_spec.specs.Memory.{Memory, byte_at}
 use Rattle.memory_spec.specs.Zones.{Zone}
@@ -26,6 +27,7 @@ use Rattle.graph_core_spec.specs.Graph.{Binding, Call, Graph}
 use Rattle.graph_core_spec.specs.Run.{State, Running, Returned, Failed, entered, has_failed, system_of, is_truth}
 use Rattle.graph_core_spec.specs.Fixed.{has_byte, holds_byte}
 use Rattle.graph_core_spec.proofs.Sorts.{entered_sorted}
+use Rattle.decompile_spec.specs.Blocks.{Entrance}
 use Rattle.decompile_spec.specs.State.{register, entry_register}
 use Rattle.decompile_laws.proofs.Values.{words_evaluates, less_evaluates, not_evaluates}
 use Rattle.c_types_spec.specs.declared.Scalar.{Scalar}
@@ -33,8 +35,7 @@ use Rattle.c_types_spec.specs.Core.{Body}
 use Rattle.c_run_spec.specs.Accesses.{in_zone}
 use Rattle.c_run_spec.specs.Calls.{locals_at_entry}
 use Rattle.c_graph_spec.specs.State.{local, zone_low, zone_high, result}
-use Rattle.c_graph_spec.specs.Layout.{inputs}
-use Rattle.c_graph_spec.specs.SourceGraph.{body_number, setting_of, graph_of, graphs_of}
+use Rattle.c_graph_spec.specs.SourceGraph.{body_number, graph_of, graphs_of}
 use Rattle.c_graph_laws.specs.Together.{Alike, HasLocal}
 use Rattle.c_graph_laws.proofs.Extents.{IsPlain}
 use Rattle.c_graph_laws.proofs.KeptBytes.{node_valid}
@@ -48,7 +49,7 @@ use Rattle.sim_rules_spec.specs.Crossing.{AreCallsAt, CalleesAgree, GivesBack, b
 use Rattle.sim_rules_spec.specs.Systems.{Relation, frame_over, hold_over, entry_holds, IsBinaryFine, IsSourceFine}
 use Rattle.sim_rules_spec.proofs.Start.{holds_fixed}
 use Rattle.sim_rules_spec.proofs.Truths.{all_left, all_right, all_mapped, all_pass}
-use Rattle.agreement_laws.specs.Callers.{function_of, argument_lines, callee_of, frame_of, BindsCall}
+use Rattle.agreement_laws.specs.Callers.{function_of, argument_lines, callee_of, Base, frame_in, HasSet, BindsCall}
 use Rattle.agreement_laws.specs.EntryFrame.{Pair, place_of, convention_of, run_of, entry_premises, result_term, widened, registers}
 use Rattle.agreement_laws.specs.Statements.{IsPair, IsSimulatedAtEntry, binary_entry, source_entry}
 use Rattle.agreement_laws.proofs.Arguments.{arguments_in, Flags, Passes, have_types, locals_there, passed_there, widened_there, values_there}
@@ -96,25 +97,26 @@ difference m n less below =
     let small : n % 2 ^ 32 ≡ n = mod-eq_of_lt (omega arith) in
     ap (λ (k : ℕ). (m + (2 ^ 32 - k)) % 2 ^ 32) small ∙ (omega arith)
 
-module _ (q : Pair) (entry stack : ℕ) (body : Body) (zone : Zone) (known : Relation) (start : Start) (goals : List Goal) (holds_at : List Hold) (call landing : Hold)
-    (calls : AreCallsAt (frame_of q start goals holds_at) (hold_over (convention_of q zone) call) (hold_over (convention_of q zone) landing))
+module _ (q : Pair) (base : Base) (entry stack : ℕ) (body : Body) (zone : Zone) (known : Relation) (start : Start) (goals : List Goal) (holds_at : List Hold) (call landing : Hold)
+    (calls : AreCallsAt (frame_in q base start goals holds_at) (hold_over (convention_of q zone) call) (hold_over (convention_of q zone) landing))
+    (binary_set : HasSet q.graphs base.binary) (source_set : HasSet (graphs_of q.unit (place_of q)) base.source)
     (is : IsPair (function_of q entry stack body)) (simulated : IsSimulatedAtEntry (function_of q entry stack body))
     (binary_callee : calls.binary.callee ≡ q.numbering.graph_number entry) (source_callee : calls.source.callee ≡ body_number body.name q.unit.bodies)
     (no_outputs : calls.binary_outputs ≡ [])
-    (binds : BindsCall q (function_of q entry stack body)
-    (pair_of (frame_of q start goals holds_at) (hold_over (convention_of q zone) call) (hold_over (convention_of q zone) landing) calls))
+    (binds : BindsCall (function_of q entry stack body)
+    (pair_of (frame_in q base start goals holds_at) (hold_over (convention_of q zone) call) (hold_over (convention_of q zone) landing) calls))
     (x y : Assignment)
-    (begin : IsStart (across (frame_over (convention_of q zone) known (frame_of q start goals holds_at)) (entry_holds (frame_of q start goals holds_at))
+    (begin : IsStart (across (frame_over (convention_of q zone) known (frame_in q base start goals holds_at)) (entry_holds (frame_in q base start goals holds_at))
     (hold_over (convention_of q zone) call) (hold_over (convention_of q zone) landing))
-    (IsBinaryFine (convention_of q zone) (frame_of q start goals holds_at)) (IsSourceFine (convention_of q zone) (frame_of q start goals holds_at))
-    (Running (q.numbering.graph_number q.entry) call.nodes.binary x []) (Running (body_number q.body.name q.unit.bodies) call.nodes.source y []))
-    (well : BeginsWell (convention_of q zone) (pair_of (frame_of q start goals holds_at) (hold_over (convention_of q zone) call) (hold_over (convention_of q zone) landing) calls)
+    (IsBinaryFine (convention_of q zone) (frame_in q base start goals holds_at)) (IsSourceFine (convention_of q zone) (frame_in q base start goals holds_at))
+    (Running base.binary.outermost call.nodes.binary x []) (Running base.source.outermost call.nodes.source y []))
+    (well : BeginsWell (convention_of q zone) (pair_of (frame_in q base start goals holds_at) (hold_over (convention_of q zone) call) (hold_over (convention_of q zone) landing) calls)
     (callee_of (function_of q entry stack body)) x y) where
   abbrev p : Pair
   p = function_of q entry stack body
 
   abbrev f : Frame
-  f = frame_of q start goals holds_at
+  f = frame_in q base start goals holds_at
 
   abbrev c : Convention
   c = convention_of q zone
@@ -123,10 +125,10 @@ module _ (q : Pair) (entry stack : ℕ) (body : Body) (zone : Zone) (known : Rel
   pair = pair_of f (hold_over c call) (hold_over c landing) calls
 
   abbrev x_start : State
-  x_start = Running (q.numbering.graph_number q.entry) call.nodes.binary x []
+  x_start = Running base.binary.outermost call.nodes.binary x []
 
   abbrev y_start : State
-  y_start = Running (body_number q.body.name q.unit.bodies) call.nodes.source y []
+  y_start = Running base.source.outermost call.nodes.source y []
 
   abbrev a : Assignment
   a = entered calls.binary_inputs x
@@ -414,10 +416,7 @@ module _ (q : Pair) (entry stack : ℕ) (body : Body) (zone : Zone) (known : Rel
   passes = passes_from 0 body.signature.parameters (plain p is) (all_left (Holds 0) arguments_of_call lines_of_call call_lines)
 
   flags : Flags b 0 body.signature.parameters others
-  flags =
-      subst (λ (list : List Binding). Flags (entered list y) 0 body.signature.parameters others) (sym binds.source)
-      (subst (λ (types : List Scalar). Flags (entered (inputs (setting_of q.unit (place_of q) q.body) 0 binds.arguments) y) 0 types others) binds.types
-      (flags_begin (setting_of q.unit (place_of q) q.body) y binds.arguments others))
+  flags = flags_begin y body.signature.parameters calls.source_inputs binds.source others
 
   zone_there : (low high : Term) (m n : ℕ) → value (values_at 0 Failed y_start) low ≡ Number W32 m → value (values_at 0 Failed y_start) high ≡ Number W32 n
       → list_all (λ (line : Term). holds (values_at 0 Failed y_start) line) (equal low (word zone.low) ∷ equal high (word zone.high) ∷ []) ≡ true
@@ -437,10 +436,11 @@ module _ (q : Pair) (entry stack : ℕ) (body : Body) (zone : Zone) (known : Rel
       (low.1 ∙ ap (Number W32) same.0, high.1 ∙ ap (Number W32) same.1)
 
   begun_in_c : (b zone_low ≡ y zone_low) × (b zone_high ≡ y zone_high) × (b source_memory ≡ y source_memory)
-  begun_in_c =
-      let own = setting_of q.unit (place_of q) q.body in
-      subst (λ (list : List Binding). (entered list y zone_low ≡ y zone_low) × (entered list y zone_high ≡ y zone_high) × (entered list y source_memory ≡ y source_memory)) (sym binds.source)
-      (low_begins own y binds.arguments, high_begins own y binds.arguments, memory_begins own y binds.arguments)
+  begun_in_c = (
+    low_begins y body.signature.parameters calls.source_inputs binds.source,
+    high_begins y body.signature.parameters calls.source_inputs binds.source,
+    memory_begins y body.signature.parameters calls.source_inputs binds.source,
+  )
 
   -- ---- memories
 
@@ -450,9 +450,9 @@ module _ (q : Pair) (entry stack : ℕ) (body : Body) (zone : Zone) (known : Rel
   old_b : (bytes : ℕ → ℕ) × (y source_memory ≡ Bytes bytes) × ((i : ℕ) → bytes i < 2 ^ 8)
   old_b = as_memory (y source_memory) (ranged_y source_memory)
 
-  caller_far : (k i : ℕ) → holds_byte (bounded nothing) binary_memory i (after (system_of q.graphs (q.numbering.graph_number q.entry)) k x_start) ≡ true
+  caller_far : (k i : ℕ) → holds_byte (bounded nothing) binary_memory i (after (system_of base.binary.graphs base.binary.outermost) k x_start) ≡ true
   caller_far k i =
-      let z : State = after (system_of q.graphs (q.numbering.graph_number q.entry)) k x_start in
+      let z : State = after (system_of base.binary.graphs base.binary.outermost) k x_start in
       (and_parts (holds_byte (bounded nothing) binary_memory i z) (entry_holds f i z Failed && (has_failed z || all_hold (entry_zone c) i z Failed)) (begin.binary_fine.held k i)).0
 
   far_a : (i : ℕ) → has_byte (Bytes old_a.0) i (bounded nothing i) ≡ true
@@ -530,16 +530,31 @@ module _ (q : Pair) (entry stack : ℕ) (body : Body) (zone : Zone) (known : Rel
   abbrev source_begins : State
   source_begins = begins f.source call.nodes.source calls.source_inputs calls.source_outputs landing.nodes.source calls.source y
 
+  some_same : (o : Option Graph) (g h : Graph) → o ≡ Some g → o ≡ Some h → g ≡ h
+  some_same o g h i j = cc
+
+  abbrev code_number : ℕ
+  code_number = q.numbering.graph_number entry
+
+  abbrev own_number : ℕ
+  own_number = body_number body.name q.unit.bodies
+
+  body_graph_there : slice_get (graphs_of q.unit (place_of q)) own_number ≡ Some (graph_of q.unit (place_of q) body)
+  body_graph_there = body_there (graph_of q.unit (place_of q)) q.unit.bodies body.name body is.body_is
+
+  code_less : code_number < length q.graphs
+  code_less = slice_get_within q.graphs code_number (code p is).0 (code p is).1
+
+  own_less : own_number < length (graphs_of q.unit (place_of q))
+  own_less = slice_get_within (graphs_of q.unit (place_of q)) own_number (graph_of q.unit (place_of q) body) body_graph_there
+
   binary_begins_is : binary_begins ≡ binary_entry p a
   binary_begins_is =
       let own = code p is in
-      let same_graph : calls.binary.graph ≡ own.0 = some_same (slice_get q.graphs calls.binary.callee) calls.binary.graph own.0 calls.binary.there
-      (ap (slice_get q.graphs) binary_callee ∙ own.1) in
+      let same_graph : calls.binary.graph ≡ own.0 = some_same (slice_get base.binary.graphs calls.binary.callee) calls.binary.graph own.0 calls.binary.there
+      (ap (slice_get base.binary.graphs) binary_callee ∙ (binary_set.there code_number code_less ∙ own.1)) in
       ap (λ (g : ℕ). Running g calls.binary.graph.entry a []) binary_callee
-      ∙ ap (λ (n : ℕ). Running (q.numbering.graph_number entry) n a []) (ap (λ (g : Graph). g.entry) same_graph ∙ own.2.entry_is)
-    where
-      some_same : (o : Option Graph) (g h : Graph) → o ≡ Some g → o ≡ Some h → g ≡ h
-      some_same o g h i j = cc
+      ∙ ap (λ (n : ℕ). Running code_number n a []) (ap (λ (g : Graph). g.entry) same_graph ∙ own.2.entry_is)
 
   first_entry : (graph_of q.unit (place_of q) body).entry ≡ 0
   unfolding graph_of
@@ -547,44 +562,66 @@ module _ (q : Pair) (entry stack : ℕ) (body : Body) (zone : Zone) (known : Rel
 
   source_begins_is : source_begins ≡ source_entry p b
   source_begins_is =
-      let same_graph : calls.source.graph ≡ graph_of q.unit (place_of q) body = some_same (slice_get (graphs_of q.unit (place_of q)) calls.source.callee) calls.source.graph
+      let same_graph : calls.source.graph ≡ graph_of q.unit (place_of q) body = some_same (slice_get base.source.graphs calls.source.callee) calls.source.graph
       (graph_of q.unit (place_of q) body) calls.source.there
-      (ap (slice_get (graphs_of q.unit (place_of q))) source_callee ∙ body_there (graph_of q.unit (place_of q)) q.unit.bodies body.name body is.body_is) in
+      (ap (slice_get base.source.graphs) source_callee ∙ (source_set.there own_number own_less ∙ body_graph_there)) in
       ap (λ (g : ℕ). Running g calls.source.graph.entry b []) source_callee
-      ∙ ap (λ (n : ℕ). Running (body_number body.name q.unit.bodies) n b []) (ap (λ (g : Graph). g.entry) same_graph ∙ first_entry)
-    where
-      some_same : (o : Option Graph) (g h : Graph) → o ≡ Some g → o ≡ Some h → g ≡ h
-      some_same o g h i j = cc
+      ∙ ap (λ (n : ℕ). Running own_number n b []) (ap (λ (g : Graph). g.entry) same_graph ∙ first_entry)
 
   abbrev outer : TransitionSystem State
-  outer = system_of q.graphs (q.numbering.graph_number q.entry)
+  outer = system_of base.binary.graphs base.binary.outermost
 
   abbrev outer_source : TransitionSystem State
-  outer_source = system_of (graphs_of q.unit (place_of q)) (body_number q.body.name q.unit.bodies)
+  outer_source = system_of base.source.graphs base.source.outermost
 
   abbrev inner : TransitionSystem State
-  inner = system_of q.graphs (q.numbering.graph_number entry)
+  inner = system_of q.graphs code_number
 
   abbrev inner_source : TransitionSystem State
-  inner_source = system_of (graphs_of q.unit (place_of q)) (body_number body.name q.unit.bodies)
+  inner_source = system_of (graphs_of q.unit (place_of q)) own_number
 
-  binary_same : (k : ℕ) → after outer k binary_begins ≡ after inner k (binary_entry p a)
-  binary_same k =
-      ap (after outer k) binary_begins_is ∙ same_run q.graphs (q.numbering.graph_number q.entry) (q.numbering.graph_number entry) k (binary_entry p a)
+  -- at each moment both runs of a callee are in one state, or the one in the set has failed
+  binary_both : (k : ℕ) → (after outer k binary_begins ≡ after inner k (binary_entry p a)) ⊎ ((after inner k (binary_entry p a) ≡ Failed) × (after outer (suc k) binary_begins ≡ Failed))
+  binary_both k =
+      let there : (j : ℕ) → after outer j binary_begins ≡ after (system_of base.binary.graphs code_number) j (binary_entry p a) =
+      λ j. ap (after outer j) binary_begins_is ∙ same_run base.binary.graphs base.binary.outermost code_number j (binary_entry p a) in
+      elim (binary_set.run code_number code_less (q.numbering.node_number entry Entrance) a k) [
+        | inl is_same ↦ inl (there k ∙ is_same)
+        | inr fails ↦ inr (fails.0, there (suc k) ∙ fails.1)
+      ]
 
-  source_same : (k : ℕ) → after outer_source k source_begins ≡ after inner_source k (source_entry p b)
-  source_same k =
-      ap (after outer_source k) source_begins_is
-      ∙ same_run (graphs_of q.unit (place_of q)) (body_number q.body.name q.unit.bodies) (body_number body.name q.unit.bodies) k (source_entry p b)
+  source_both : (k : ℕ) → (after outer_source k source_begins ≡ after inner_source k (source_entry p b)) ⊎ ((after inner_source k (source_entry p b) ≡ Failed) × (after outer_source (suc k) source_begins ≡ Failed))
+  source_both k =
+      let there : (j : ℕ) → after outer_source j source_begins ≡ after (system_of base.source.graphs own_number) j (source_entry p b) =
+      λ j. ap (after outer_source j) source_begins_is ∙ same_run base.source.graphs base.source.outermost own_number j (source_entry p b) in
+      elim (source_set.run own_number own_less 0 b k) [
+        | inl is_same ↦ inl (there k ∙ is_same)
+        | inr fails ↦ inr (fails.0, there (suc k) ∙ fails.1)
+      ]
 
   far : (k i : ℕ) → holds_byte (bounded nothing) binary_memory i (after inner k (binary_entry p a)) ≡ true
-  far k i = subst (λ (z : State). holds_byte (bounded nothing) binary_memory i z ≡ true) (binary_same k)
-      (callee_far f.binary call.nodes.binary calls.binary_inputs calls.binary_outputs landing.nodes.binary calls.binary x no_outputs caller_far k i)
+  far k i = elim (binary_both k) [
+    | inl is_same ↦ subst (λ (z : State). holds_byte (bounded nothing) binary_memory i z ≡ true) is_same
+        (callee_far f.binary call.nodes.binary calls.binary_inputs calls.binary_outputs landing.nodes.binary calls.binary x no_outputs caller_far k i)
+    | inr fails ↦ ap (holds_byte (bounded nothing) binary_memory i) fails.0
+  ]
+
+  source_lives : (k : ℕ) → after outer_source k source_begins ≡ Failed → ⊥
+  source_lives k failed =
+      callee_safe f.source call.nodes.source calls.source_inputs calls.source_outputs landing.nodes.source calls.source y
+      (λ n running. begin.source_safe n n (omega arith) running) k failed
 
   unbroken : (k : ℕ) → after inner_source k (source_entry p b) ≡ Failed → ⊥
-  unbroken k failed =
-      callee_safe f.source call.nodes.source calls.source_inputs calls.source_outputs landing.nodes.source calls.source y
-      (λ n running. begin.source_safe n n (omega arith) running) k (source_same k ∙ failed)
+  unbroken k failed = elim (source_both k) [
+    | inl is_same ↦ source_lives k (is_same ∙ failed)
+    | inr fails ↦ source_lives (suc k) fails.1
+  ]
+
+  source_same : (k : ℕ) → after outer_source k source_begins ≡ after inner_source k (source_entry p b)
+  source_same k = elim (source_both k) [
+    | inl is_same ↦ is_same
+    | inr fails ↦ absurd (unbroken k fails.0)
+  ]
 
   begun : IsBegun p had binary_bytes.0 arguments a
   unfolding arguments
@@ -604,6 +641,15 @@ module _ (q : Pair) (entry stack : ℕ) (body : Body) (zone : Zone) (known : Rel
 
   low_inside : zone.low ≤ had 2 - p.stack
   low_inside = let inside_it = stack_inside in let room = low_room in omega arith
+
+  binary_lives : (k : ℕ) → has_failed (after inner k (binary_entry p a)) ≡ false
+  binary_lives k = never_fails p is simulated had zone source_bytes.0 binary_bytes.0 arguments a b begun alike low_inside high_inside same unbroken k
+
+  binary_same : (k : ℕ) → after outer k binary_begins ≡ after inner k (binary_entry p a)
+  binary_same k = elim (binary_both k) [
+    | inl is_same ↦ is_same
+    | inr fails ↦ absurd (let bad : true ≡ false = sym (ap has_failed fails.0) ∙ binary_lives k in cc)
+  ]
 
   -- ---- what they give back
 
@@ -714,16 +760,15 @@ module _ (q : Pair) (entry stack : ℕ) (body : Body) (zone : Zone) (known : Rel
 
   pub agree : CalleesAgree f.binary f.source (GivesBack c (callee_of p) x) binary_begins source_begins
   agree = record {
-    safe = λ k. ap has_failed (binary_same k)
-        ∙ never_fails p is simulated had zone source_bytes.0 binary_bytes.0 arguments a b begun alike low_inside high_inside same unbroken k;
+    safe = λ k. ap has_failed (binary_same k) ∙ binary_lives k;
     forth = λ t r returns.
         let r_is = sym (binary_same t) ∙ returns.now in
         let there = given_forth p is simulated had zone source_bytes.0 binary_bytes.0 arguments a b begun alike low_inside high_inside same unbroken t r r_is in
-        let first = first_return (graphs_of q.unit (place_of q)) (body_number q.body.name q.unit.bodies) there.0 source_begins there.1 (source_same there.0 ∙ there.2) in
+        let first = first_return base.source.graphs base.source.outermost there.0 source_begins there.1 (source_same there.0 ∙ there.2) in
         (first.0, there.1, first.1, gives_back t there.0 r there.1 there.3 r_is there.2);
     back = λ u d returns.
         let d_is = sym (source_same u) ∙ returns.now in
         let there = given_back p is simulated had zone source_bytes.0 binary_bytes.0 arguments a b begun alike low_inside high_inside same unbroken u d d_is in
-        let first = first_return q.graphs (q.numbering.graph_number q.entry) there.0 binary_begins there.1 (binary_same there.0 ∙ there.2) in
+        let first = first_return base.binary.graphs base.binary.outermost there.0 binary_begins there.1 (binary_same there.0 ∙ there.2) in
         (first.0, there.1, first.1, gives_back there.0 u there.1 d there.3 there.2 d_is);
   }

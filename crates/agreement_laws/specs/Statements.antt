@@ -21,6 +21,7 @@ use Rattle.c_graph_spec.specs.Sizes.{UnitSizes}
 use Rattle.c_graph_spec.specs.SourceGraph.{body_number}
 use Rattle.c_graph_laws.specs.Together.{IsPlace, Alike}
 use Rattle.proof_tree_spec.specs.Cuts.{both}
+use Rattle.proof_tree_spec.specs.Frames.{Frame}
 use Rattle.sim_rules_spec.specs.Points.{all_hold}
 use Rattle.sim_rules_spec.specs.Proper.{Opens}
 use Rattle.sim_rules_spec.specs.Systems.{IsSimulated, IsBinaryFine, IsSourceFine}
@@ -67,9 +68,9 @@ SimulatedIsInner = (p : Pair) → IsPair p → IsSimulatedAtEntry p → Inner p
 
 -- ---- what the rules ask at the entry
 
--- two states of which the facts are known have the values of the opening's terms
+-- two states of which the facts are known have the values of the opening's terms, whatever the frame's graphs
 abbrev pub EntryOpens : Type 0
-EntryOpens = (p : Pair) (zone : Zone) → IsPair p → p.stack < 2 ^ 32 → Opens (convention_of p zone) (entry_frame p) (entry_opening p zone)
+EntryOpens = (p : Pair) (zone : Zone) (f : Frame) → IsPair p → p.stack < 2 ^ 32 → Opens (convention_of p zone) f (entry_opening p zone)
 
 -- ---- starts
 

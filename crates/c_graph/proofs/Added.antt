@@ -17,7 +17,7 @@ use Rattle.c_graph_spec.specs.Values.{at_width}
 use Rattle.c_graph_spec.specs.Layout.{Setting, binding, set_local, value_in, inputs, outputs, result_put}
 use Rattle.c_graph_terms.specs.Built.{IsGrown, IsBuilt}
 use Rattle.c_graph_terms.proofs.Banks.{grown_itself, grown_then}
-use Rattle.c_graph.specs.Bound.{AreAdded, zone_inputs, parameters}
+use Rattle.c_graph.specs.Bound.{AreAdded}
 
 pub nothing_shared : (trees : List Term) → AreShared trees [] []
 nothing_shared trees = record { within = λ k d less. absurd (omega arith); are = refl }
@@ -62,27 +62,21 @@ bound_as a b p q made others e h = subst (AreAdded a b p q) e h
 pub built_bound : (a b : List Term) (p q : List SharedBinding) (v : Variable) (id : ℕ) (t : Term) → IsBuilt a b id t → AreAdded b b p q (binding v (tree_at b id) ∷ []) → AreAdded a b p q (binding v t ∷ [])
 built_bound a b p q v id t h k = bound_after a b b p q (binding v t ∷ []) h.is_grown (subst (λ (x : Term). AreAdded b b p q (binding v x ∷ [])) h.tree k)
 
--- ---- parameters
+-- ---- what a call passes
 
-parameters_first : (f : Setting) (number : ℕ) (x : Core) (rest : List Core) → parameters f number (x ∷ rest) ≡ set_local number (type_of x) (value_in f x) ++ parameters f (suc number) rest
-unfolding parameters
-parameters_first f number x rest = refl
+inputs_first : (f : Setting) (number : ℕ) (x : Core) (rest : List Core) → inputs f number (x ∷ rest) ≡ set_local number (type_of x) (value_in f x) ++ inputs f (suc number) rest
+unfolding inputs
+inputs_first f number x rest = refl
 
-pub no_parameters : (f : Setting) (number : ℕ) → parameters f number [] ≡ []
-unfolding parameters
-no_parameters f number = refl
+pub no_inputs : (f : Setting) (number : ℕ) → inputs f number [] ≡ []
+unfolding inputs
+no_inputs f number = refl
 
-pub inputs_are : (f : Setting) (number : ℕ) (arguments : List Core) → inputs f number arguments ≡ parameters f number arguments ++ zone_inputs
-unfolding inputs parameters
-inputs_are f number [] = refl
-inputs_are f number (x ∷ rest) =
-    ap (λ (l : List Binding). set_local number (type_of x) (value_in f x) ++ l) (inputs_are f (suc number) rest)
-
-pub one_parameter : (f : Setting) (number next : ℕ) (x : Core) (rest all : List Core) → all ≡ x ∷ rest → next ≡ number + 1
-    → parameters f number all ≡ set_local number (type_of x) (value_in f x) ++ parameters f next rest
-one_parameter f number next x rest all e n =
+pub one_input : (f : Setting) (number next : ℕ) (x : Core) (rest all : List Core) → all ≡ x ∷ rest → next ≡ number + 1
+    → inputs f number all ≡ set_local number (type_of x) (value_in f x) ++ inputs f next rest
+one_input f number next x rest all e n =
     let more : suc number ≡ next = omega arith in
-    ap (parameters f number) e ∙ parameters_first f number x rest ∙ ap (λ (k : ℕ). set_local number (type_of x) (value_in f x) ++ parameters f k rest) more
+    ap (inputs f number) e ∙ inputs_first f number x rest ∙ ap (λ (k : ℕ). set_local number (type_of x) (value_in f x) ++ inputs f k rest) more
 
 -- ---- variables and results
 

@@ -25,7 +25,7 @@ use Rattle.c_graph_spec.specs.State.{value_constant}
 use Rattle.c_graph_spec.specs.Values as spec
 use Rattle.c_graph_spec.specs.Values.{Globals, Terms, no_object, terms}
 use Rattle.c_graph_spec.specs.Guards.{tests}
-use Rattle.c_graph_spec.specs.Layout.{Setting, set_local, value_in, tests_in, argument_tests, guarded, chain}
+use Rattle.c_graph_spec.specs.Layout.{Setting, set_local, value_in, tests_in, inputs, argument_tests, guarded, chain}
 use Rattle.c_graph_layout.specs.Lists.{cores_of}
 use Rattle.c_graph_layout.proofs.Blocks.{item}
 use Rattle.c_graph_terms.specs.declared.values.ValueIds.{ValueIds}
@@ -38,10 +38,10 @@ use Rattle.c_graph_terms.specs.Scenes.{IsObject, object_at, stored_term, stored_
 use Rattle.c_graph_terms.proofs.Banks.{grown_itself, kept}
 use Rattle.c_graph_terms.proofs.Lists.{ids_within, ids_trees, tested_itself, tested_then, tested_more, tested_after, tested_one}
 use Rattle.c_graph.specs.declared.cases.Case.{Case}
-use Rattle.c_graph.specs.Bound.{AreAdded, Compares, IsDrafted, Passes, parameters, zone_inputs}
+use Rattle.c_graph.specs.Bound.{AreAdded, Compares, IsDrafted, Passes}
 use Rattle.c_graph.specs.Seen.{case_of, cases_in, case_tests}
 use Rattle.c_graph.proofs.Ids.{map_more}
-use Rattle.c_graph.proofs.Added.{all_shared, both_bound, bound_after, nothing_added, one_parameter, no_parameters, nothing_shared}
+use Rattle.c_graph.proofs.Added.{all_shared, both_bound, bound_after, nothing_added, one_input, no_inputs, nothing_shared}
 
 -- ---- values, which are in no assignment to an object
 
@@ -80,17 +80,16 @@ drafted_test a b i j ids t made_tests on_true on_false h =
       is = ap (λ (x : Term). graph.Cond x on_true on_false) h.are.truth_is;
     }
 
-pub drafted_call : (a b c d : List Term) (i j : List ℕ) (before passed : List SharedBinding) (ins outs : Vec SharedBinding Global) (made_tests : List Term) (params ins_made outs_made : List Binding) (callee number landing : ℕ)
-    → before ≡ [] → Passes a b i j before passed made_tests params → AreAdded b c passed ins.items zone_inputs → ins_made ≡ params ++ zone_inputs → AreAdded c d [] outs.items outs_made → callee ≡ number
-    → IsDrafted a d i j (shared.Call callee ins outs landing) made_tests (graph.Call number ins_made outs_made landing)
-drafted_call a b c d i j before passed ins outs made_tests params ins_made outs_made callee number landing e p zone whole o same =
-    let all : AreAdded a c before ins.items (params ++ zone_inputs) = both_bound a b c before passed ins.items params zone_inputs p.bound zone in
-    let given : AreShared d (params ++ zone_inputs) ins.items = shared_later c d o.is_grown.extends (params ++ zone_inputs) ins.items (all_shared a c before ins.items (params ++ zone_inputs) e all) in
-    let taken : AreShared d outs_made outs.items = all_shared c d [] outs.items outs_made refl o in
+pub drafted_call : (a b c : List Term) (i j : List ℕ) (before : List SharedBinding) (ins outs : Vec SharedBinding Global) (made_tests : List Term) (ins_made outs_made : List Binding) (callee number landing : ℕ)
+    → before ≡ [] → Passes a b i j before ins.items made_tests ins_made → AreAdded b c [] outs.items outs_made → callee ≡ number
+    → IsDrafted a c i j (shared.Call callee ins outs landing) made_tests (graph.Call number ins_made outs_made landing)
+drafted_call a b c i j before ins outs made_tests ins_made outs_made callee number landing e p o same =
+    let given : AreShared c ins_made ins.items = shared_later b c o.is_grown.extends ins_made ins.items (all_shared a b before ins.items ins_made e p.bound) in
+    let taken : AreShared c outs_made outs.items = all_shared b c [] outs.items outs_made refl o in
     record {
-      tested = tested_more a c d i j made_tests (tested_more a b c i j made_tests p.tested zone.is_grown) o.is_grown;
+      tested = tested_more a b c i j made_tests p.tested o.is_grown;
       within = (given.within, taken.within);
-      is = ap (λ (n : ℕ). graph.Call n (map (shared_binding_of d) ins.items) (map (shared_binding_of d) outs.items) landing) same ∙ ap₂ (λ (x y : List Binding). graph.Call number x y landing) (given.are ∙ sym whole) taken.are;
+      is = ap (λ (n : ℕ). graph.Call n (map (shared_binding_of c) ins.items) (map (shared_binding_of c) outs.items) landing) same ∙ ap₂ (λ (x y : List Binding). graph.Call number x y landing) given.are taken.are;
     }
 
 -- ---- from a new bank to the graph
@@ -151,7 +150,7 @@ pub record Passing (f : Setting) (xs : List (Box Core Global)) (number : ℕ) (a
   pub made : List Binding
   pub passes : Passes a b i j p q made_tests made
   pub tests_are : made_tests ++ argument_tests f (cores_of (drop number xs)) ≡ argument_tests f (cores_of xs)
-  pub made_are : made ++ parameters f number (cores_of (drop number xs)) ≡ parameters f 0 (cores_of xs)
+  pub made_are : made ++ inputs f number (cores_of (drop number xs)) ≡ inputs f 0 (cores_of xs)
 
 pub passing_none : (f : Setting) (xs : List (Box Core Global)) (a : List Term) (i : List ℕ) (p : List SharedBinding) → Passing f xs 0 a a i i p p
 passing_none f xs a i p = record { made_tests = []; made = []; passes = passes_none a i p; tests_are = refl; made_are = refl }
@@ -169,19 +168,19 @@ passing_more f xs number x a b c i j k p q r below is h one =
       passes = passes_then a b c i j k p q r h.made_tests (tests_in f y) h.made (set_local number (type_of y) (value_in f y)) h.passes one;
       tests_are = append_assoc h.made_tests (tests_in f y) (argument_tests f rest)
           ∙ ap (λ (l : List Term). h.made_tests ++ l) (sym (ap (argument_tests f) here ∙ argument_first f y rest)) ∙ h.tests_are;
-      made_are = append_assoc h.made (set_local number (type_of y) (value_in f y)) (parameters f (number + 1) rest)
-          ∙ ap (λ (l : List Binding). h.made ++ l) (sym (one_parameter f number (number + 1) y rest (cores_of (drop number xs)) here refl)) ∙ h.made_are;
+      made_are = append_assoc h.made (set_local number (type_of y) (value_in f y)) (inputs f (number + 1) rest)
+          ∙ ap (λ (l : List Binding). h.made ++ l) (sym (one_input f number (number + 1) y rest (cores_of (drop number xs)) here refl)) ∙ h.made_are;
     }
 
 pub passing_all : (f : Setting) (xs : List (Box Core Global)) (number : ℕ) (a b : List Term) (i j : List ℕ) (p q : List SharedBinding) → length xs ≤ number → Passing f xs number a b i j p q
-    → Passes a b i j p q (argument_tests f (cores_of xs)) (parameters f 0 (cores_of xs))
+    → Passes a b i j p q (argument_tests f (cores_of xs)) (inputs f 0 (cores_of xs))
 passing_all f xs number a b i j p q past h =
     let none : drop number xs ≡ [] = drop_all number xs past in
     let all_tests : h.made_tests ≡ argument_tests f (cores_of xs) =
     sym (append-nil h.made_tests) ∙ ap (λ (l : List Term). h.made_tests ++ l) (sym (ap (λ (l : List (Box Core Global)). argument_tests f (cores_of l)) none ∙ no_arguments f)) ∙ h.tests_are in
-    let all_made : h.made ≡ parameters f 0 (cores_of xs) =
-    sym (append-nil h.made) ∙ ap (λ (l : List Binding). h.made ++ l) (sym (ap (λ (l : List (Box Core Global)). parameters f number (cores_of l)) none ∙ no_parameters f number)) ∙ h.made_are in
-    subst (λ (l : List Term). Passes a b i j p q l (parameters f 0 (cores_of xs))) all_tests (subst (λ (l : List Binding). Passes a b i j p q h.made_tests l) all_made h.passes)
+    let all_made : h.made ≡ inputs f 0 (cores_of xs) =
+    sym (append-nil h.made) ∙ ap (λ (l : List Binding). h.made ++ l) (sym (ap (λ (l : List (Box Core Global)). inputs f number (cores_of l)) none ∙ no_inputs f number)) ∙ h.made_are in
+    subst (λ (l : List Term). Passes a b i j p q l (inputs f 0 (cores_of xs))) all_tests (subst (λ (l : List Binding). Passes a b i j p q h.made_tests l) all_made h.passes)
 
 -- ---- cases, one after the other
 

@@ -1,14 +1,11 @@
 -- Bindings and nodes over the terms of a bank that grows.
-use Rattle.std.specs.Prelude.{◌≡◌, ℕ, zero, suc, List, [], ◌∷◌, ◌++◌, length, Result, IfOk, OnOk}
-use Rattle.term_core_spec.specs.Term.{Term, open_term}
+use Rattle.std.specs.Prelude.{◌≡◌, ℕ, List, ◌++◌, length, Result, IfOk, OnOk}
+use Rattle.term_core_spec.specs.Term.{Term}
 use Rattle.graph_core_spec.specs.Graph.{Binding, Node}
 use Rattle.graph_core.specs.declared.shared.SharedBinding.{SharedBinding}
 use Rattle.graph_core.specs.declared.shared.SharedNode.{SharedNode}
 use Rattle.graph_core.specs.Shared.{IsSharedNode, shared_node_of}
 use Rattle.graph_core.specs.Graphs.{AreShared}
-use Rattle.c_types_spec.specs.Core.{Core, type_of}
-use Rattle.c_graph_spec.specs.State.{zone_low, zone_high}
-use Rattle.c_graph_spec.specs.Layout.{Setting, binding, set_local, value_in}
 use Rattle.c_graph_terms.specs.Built.{IsGrown}
 use Rattle.c_graph_terms.specs.Tests.{IsTested}
 
@@ -21,15 +18,6 @@ pub record AreAdded (old new : List Term) (before after : List SharedBinding) (m
 
 abbrev pub AddsBindings : {T E : Type 0} → (old new : List Term) → (before after : List SharedBinding) → Result T E → List Binding → Type 0
 AddsBindings old new before after result made = OnOk result (AreAdded old new before after made)
-
--- the zone of a callee is its caller's
-abbrev pub zone_inputs : List Binding
-zone_inputs = binding zone_low (open_term zone_low) ∷ binding zone_high (open_term zone_high) ∷ []
-
--- a callee's parameters, from a number on
-unfoldable pub parameters : Setting → (number : ℕ) → List Core → List Binding
-parameters f number [] = []
-parameters f number (argument ∷ rest) = set_local number (type_of argument) (value_in f argument) ++ parameters f (suc number) rest
 
 -- tests of guards that are added to a list, and bindings to another
 pub record Passes (old new : List Term) (before after : List ℕ) (given taken : List SharedBinding) (tests : List Term) (made : List Binding) : Type 0 where

@@ -6,12 +6,12 @@ ghost use Rattle.term_bank.specs.Nodes.{tree_at};
 ghost use Rattle.c_graph_spec.specs.State as state;
 ghost use Rattle.c_graph_spec.specs.Values as values;
 ghost use Rattle.c_graph_spec.specs.Layout as spec;
-ghost use Rattle.c_graph.specs.Bound.{AddsBindings, AreAdded, zone_inputs};
+ghost use Rattle.c_graph.specs.Bound.{AddsBindings, AreAdded};
 ghost use Rattle.c_graph.specs.Frames.{local_in, setting_in};
 
 use crate::frame::{Frame, local_type, result_type};
 use attempt::attempt;
-use c_graph_terms::{ZONE_HIGH, ZONE_LOW, at_width, is_set, leaf, local, result_of, width_of};
+use c_graph_terms::{at_width, is_set, leaf, local, result_of, width_of};
 use c_types_spec::Scalar;
 use graph_core::SharedBinding;
 use std::alloc::AllocError;
@@ -33,7 +33,7 @@ pub(crate) fn bind(
 }
 
 /// Binds a variable to an atom.
-pub(crate) fn bind_atom(
+fn bind_atom(
     bank: &mut Bank,
     bindings: &mut Vec<SharedBinding>,
     variable: Variable,
@@ -60,18 +60,6 @@ pub(crate) fn bind_local(
 {
     attempt!(bind(bindings, local(number, of), term));
     bind_atom(bank, bindings, is_set(number), Atom::Truth(true))
-}
-
-/// Binds the zone of a callee to that of its caller.
-pub(crate) fn bind_zone(
-    bank: &mut Bank,
-    bindings: &mut Vec<SharedBinding>,
-) -> Result<(), AllocError>
-    ensures { AddsBindings bank.old bank.new bindings.old.items bindings.new.items result
-        zone_inputs }
-{
-    attempt!(bind_atom(bank, bindings, ZONE_LOW, Atom::Open(ZONE_LOW)));
-    bind_atom(bank, bindings, ZONE_HIGH, Atom::Open(ZONE_HIGH))
 }
 
 /// Binds a local to the result of a call, converted to the local's type.

@@ -11,10 +11,10 @@ ghost use Rattle.c_graph_spec.specs.Layout as spec;
 ghost use Rattle.c_graph_layout.specs.Lists.{cores_of};
 ghost use Rattle.c_graph_terms.specs.Tests.{Evaluates};
 ghost use Rattle.c_graph_terms.specs.Accesses.{Stores};
-ghost use Rattle.c_graph.specs.Bound.{Drafts, Passes, parameters};
+ghost use Rattle.c_graph.specs.Bound.{Drafts, Passes};
 ghost use Rattle.c_graph.specs.Frames.{setting_in};
 
-use crate::bindings::{bind, bind_local, bind_zone, outputs};
+use crate::bindings::{bind, bind_local, outputs};
 use crate::frame::{Frame, source_number};
 use attempt::attempt;
 use c_graph_terms::{MEMORY, Scene, ValueIds, evaluate, no_object, result_of, store};
@@ -195,7 +195,7 @@ fn pass(
     ensures { OnOk result (Passes bank.old bank.new tests.old.items tests.new.items
         inputs.old.items inputs.new.items
         (spec.argument_tests (setting_in frame.now) (cores_of arguments.now))
-        (parameters (setting_in frame.now) 0 (cores_of arguments.now))) }
+        (spec.inputs (setting_in frame.now) 0 (cores_of arguments.now))) }
 {
     for number in 0..arguments.len() {
         let x = &arguments[number];
@@ -222,7 +222,6 @@ pub(crate) fn call_node(
 {
     let mut inputs = Vec::new(frame.alloc);
     attempt!(pass(frame, bank, tests, &mut inputs, arguments));
-    attempt!(bind_zone(bank, &mut inputs));
     let outputs = attempt!(outputs(frame, bank, function, into));
     Ok(SharedNode::Call {
         callee: source_number(frame.unit, function),

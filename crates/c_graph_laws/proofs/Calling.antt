@@ -52,11 +52,11 @@ value_given s _ _ r x e d (gives_some type y has) =
 
 -- ---- how a callee ends
 
-module _ (graphs : Graphs) (outermost : ℕ) (below : List Waiting) (type : Option Scalar) where
+module _ (graphs : Graphs) (outermost : ℕ) (below : List Waiting) (type : Option Scalar) (zone : Zone) where
   pub data Ends (d n : ℕ) (x : State) : Called → Type 0 where
     unfinished : (k : ℕ) → min d n ≤ k → IsRunning (after (system_of graphs outermost) k x) → Ends d n x Unfinished
     breaks_off : (guard : Guard) (offset k : ℕ) → after (system_of graphs outermost) k x ≡ Failed → Ends d n x (c.Failed guard offset)
-    returned : (v : Option ℤ) (bytes : Memory) (left k : ℕ) (s : Assignment) → n ≤ k + left → Left type v bytes s → after (system_of graphs outermost) k x ≡ leave s below
+    returned : (v : Option ℤ) (bytes : Memory) (left k : ℕ) (s : Assignment) → n ≤ k + left → Left type v bytes zone s → after (system_of graphs outermost) k x ≡ leave s below
         → Ends d n x (Returned v bytes left)
 
 -- ---- the caller goes on
@@ -66,15 +66,15 @@ module _ (unit : Typed) (p : Place) (zone : Zone) (body : Body) (locals : Locals
   f = setting_of unit p body
 
   -- nothing is taken from the callee
-  pub alike_on : (type : Option Scalar) (v : Option ℤ) → Left type v bytes callee_s → Alike body.locals locals bytes zone (resumed [] callee_s s)
+  pub alike_on : (type : Option Scalar) (v : Option ℤ) → Left type v bytes zone callee_s → Alike body.locals locals bytes zone (resumed [] callee_s s)
   unfolding bound
   alike_on type v left = record {
     sorted = resumed_sorted [] callee_s s (All-nil IsBinding) left.sorted alike.sorted;
     local_is = λ number t w et ew. local_kept s (resumed [] callee_s s) number t w refl refl (alike.local_is number t w et ew);
     local_there = alike.local_there;
     memory_is = left.memory_is;
-    low_is = alike.low_is;
-    high_is = alike.high_is;
+    low_is = left.low_is;
+    high_is = left.high_is;
   }
 
   outputs_are : (function : List ℕ) (type : FunctionType) (number : ℕ) (given r : Scalar) → entry_of unit.functions function ≡ Some type → type.result ≡ Some r → slice_get body.locals number ≡ Some given
@@ -93,15 +93,15 @@ module _ (unit : Typed) (p : Place) (zone : Zone) (body : Body) (locals : Locals
   result_value r x has = has.word
 
   pub alike_result : (function : List ℕ) (type : FunctionType) (number : ℕ) (given r : Scalar) → entry_of unit.functions function ≡ Some type → type.result ≡ Some r → slice_get body.locals number ≡ Some given
-      → IsPlain r → IsPlain given → (v : Option ℤ) → Left (Some r) v bytes callee_s → Alike body.locals (received body.locals locals (Some number) v) bytes zone (resumed (outputs f function (Some number)) callee_s s)
+      → IsPlain r → IsPlain given → (v : Option ℤ) → Left (Some r) v bytes zone callee_s → Alike body.locals (received body.locals locals (Some number) v) bytes zone (resumed (outputs f function (Some number)) callee_s s)
   unfolding bound
   alike_result function type number given r named is there plain_r plain_given v left = at v left left.gives
     where
-      at : (v : Option ℤ) → Left (Some r) v bytes callee_s → Gives callee_s (Some r) v
+      at : (v : Option ℤ) → Left (Some r) v bytes zone callee_s → Gives callee_s (Some r) v
           → Alike body.locals (received body.locals locals (Some number) v) bytes zone (resumed (outputs f function (Some number)) callee_s s)
       at (Some x) left gives = some x left (value_given callee_s (Some r) (Some x) r x refl refl gives)
         where
-          some : (x : ℤ) → Left (Some r) (Some x) bytes callee_s → HasValue callee_s (result r) r x
+          some : (x : ℤ) → Left (Some r) (Some x) bytes zone callee_s → HasValue callee_s (result r) r x
               → Alike body.locals (received body.locals locals (Some number) (Some x)) bytes zone (resumed (outputs f function (Some number)) callee_s s)
           some x left has =
               subst (λ (o : List Binding). Alike body.locals (slice_set locals number (as_local body.locals number (Some x))) bytes zone (resumed o callee_s s)) (sym (outputs_are function type number given r named is there))

@@ -6,7 +6,7 @@ use Rattle.memory_spec.specs.Memory.{Memory}
 use Rattle.memory_spec.specs.Zones.{Zone}
 use Rattle.term_core_spec.specs.declared.Sort.TheVariants as sort
 use Rattle.term_core_spec.specs.declared.Variable.{Variable}
-use Rattle.term_core_spec.specs.Term.{truth, open_term}
+use Rattle.term_core_spec.specs.Term.{truth}
 use Rattle.term_core_spec.specs.Sort.{sort_of, sort_of_atom}
 use Rattle.term_core_spec.specs.Value.{Truth, Number, Assignment, value}
 use Rattle.graph_core_spec.specs.Graph.{IsBinding, AreBindings}
@@ -76,7 +76,7 @@ module _ (unit : Typed) (p : Place) (placed : IsPlace p) (zone : Zone) (body : B
 
   inputs_sorted : (number : ℕ) (types : List Scalar) (arguments : List Core) (vs : List ℤ) → Passed types arguments vs → AreBindings (inputs f number arguments)
   unfolding inputs sort_of sort_of_atom
-  inputs_sorted number [] [] [] passed = All-cons IsBinding (binding zone_low (open_term zone_low)) (binding zone_high (open_term zone_high) ∷ []) refl (All-cons IsBinding (binding zone_high (open_term zone_high)) [] refl (All-nil IsBinding))
+  inputs_sorted number [] [] [] passed = All-nil IsBinding
   inputs_sorted number [] [] (v ∷ vs) passed = absurd passed
   inputs_sorted number [] (x ∷ arguments) vs passed = absurd passed
   inputs_sorted number (t ∷ types) [] vs passed = absurd passed
@@ -87,26 +87,12 @@ module _ (unit : Typed) (p : Place) (placed : IsPlace p) (zone : Zone) (body : B
 
   -- what no argument binds
   skipped : (y : Variable) → ((n : ℕ) (t : Scalar) → y ≢ local n t) → ((n : ℕ) → y ≢ is_set n) → (number : ℕ) (arguments : List Core) (rest : Assignment)
-      → bound (inputs f number arguments) s rest y ≡ bound (inputs f number []) s rest y
+      → bound (inputs f number arguments) s rest y ≡ rest y
   unfolding inputs
-  skipped y a b number [] rest = refl
+  skipped y a b number [] rest = bound_none s y rest
   skipped y a b number (x ∷ arguments) rest =
       bound_there s y (local number (type_of x)) (value_in f x) (binding (is_set number) (truth true) ∷ inputs f (suc number) arguments) rest (a number (type_of x))
       ∙ bound_there s y (is_set number) (truth true) (inputs f (suc number) arguments) rest (b number) ∙ skipped y a b (suc number) arguments rest
-
-  last_inputs : (y : Variable) (number : ℕ) (rest : Assignment) → y ≢ zone_low → y ≢ zone_high → bound (inputs f number []) s rest y ≡ rest y
-  unfolding inputs
-  last_inputs y number rest a b = bound_there s y zone_low (open_term zone_low) _ rest a ∙ bound_there s y zone_high (open_term zone_high) [] rest b ∙ bound_none s y rest
-
-  low_input : (rest : Assignment) → bound (inputs f 0 []) s rest zone_low ≡ s zone_low
-  unfolding inputs value
-  low_input rest = bound_here s zone_low (open_term zone_low) (binding zone_high (open_term zone_high) ∷ []) rest
-
-  high_input : (rest : Assignment) → bound (inputs f 0 []) s rest zone_high ≡ s zone_high
-  unfolding inputs value
-  high_input rest =
-      bound_there s zone_high zone_low (open_term zone_low) (binding zone_high (open_term zone_high) ∷ []) rest (λ e. let q = ap (λ (y : Variable). y.index) e in absurd (omega arith))
-      ∙ bound_here s zone_high (open_term zone_high) [] rest
 
   none_at : (types : List Scalar) (i : ℕ) (v : Option ℤ) → slice_get (locals_at_entry types []) i ≡ Some v → None ≡ v
   none_at [] i v e = absurd (cc)
@@ -119,7 +105,7 @@ module _ (unit : Typed) (p : Place) (placed : IsPlace p) (zone : Zone) (body : B
   unfolding inputs
   entered_local number [] others [] [] rest clear passed i t v et ev =
       subst (λ (o : Option ℤ). HasLocal (bound (inputs f number []) s rest) (number + i) t o) (none_at others i v ev)
-      (alike.unset (last_inputs (is_set (number + i)) number rest (λ e. let q = ap (λ (y : Variable). y.family) e in cc) (λ e. let q = ap (λ (y : Variable). y.family) e in cc) ∙ clear (number + i)))
+      (alike.unset (bound_none s (is_set (number + i)) rest ∙ clear (number + i)))
   entered_local number [] others [] (w ∷ vs) rest clear passed i t v et ev = absurd passed
   entered_local number [] others (x ∷ arguments) vs rest clear passed i t v et ev = absurd passed
   entered_local number (u ∷ types) others [] vs rest clear passed i t v et ev = absurd passed
@@ -165,8 +151,7 @@ module _ (unit : Typed) (p : Place) (placed : IsPlace p) (zone : Zone) (body : B
     local_is = λ number t v et ev. subst (λ (n : ℕ). HasLocal (entered (inputs f 0 arguments) s) n t v) {x = 0 + number} {y = number} (omega arith)
         (entered_local 0 types others arguments vs _ (λ n. refl) passed number t v et ev);
     local_there = λ number t et. some_local (types ++ others) vs number t et;
-    memory_is = skipped memory (λ n t e. let q = ap (λ (y : Variable). y.family) e in cc) (λ n e. let q = ap (λ (y : Variable). y.family) e in cc) 0 arguments _
-        ∙ last_inputs memory 0 _ (λ e. let q = ap (λ (y : Variable). y.family) e in cc) (λ e. let q = ap (λ (y : Variable). y.family) e in cc) ∙ same.memory_is;
-    low_is = skipped zone_low (λ n t e. let q = ap (λ (y : Variable). y.family) e in cc) (λ n e. let q = ap (λ (y : Variable). y.family) e in cc) 0 arguments _ ∙ low_input _ ∙ same.low_is;
-    high_is = skipped zone_high (λ n t e. let q = ap (λ (y : Variable). y.family) e in cc) (λ n e. let q = ap (λ (y : Variable). y.family) e in cc) 0 arguments _ ∙ high_input _ ∙ same.high_is;
+    memory_is = skipped memory (λ n t e. let q = ap (λ (y : Variable). y.family) e in cc) (λ n e. let q = ap (λ (y : Variable). y.family) e in cc) 0 arguments _ ∙ same.memory_is;
+    low_is = skipped zone_low (λ n t e. let q = ap (λ (y : Variable). y.family) e in cc) (λ n e. let q = ap (λ (y : Variable). y.family) e in cc) 0 arguments _ ∙ same.low_is;
+    high_is = skipped zone_high (λ n t e. let q = ap (λ (y : Variable). y.family) e in cc) (λ n e. let q = ap (λ (y : Variable). y.family) e in cc) 0 arguments _ ∙ same.high_is;
   }

@@ -3,7 +3,8 @@ use Rattle.std.proofs.Common.{◌≡◌, ◌∙◌, ℕ, zero, suc, ◌+◌, ◌
 use Rattle.std.specs.Prelude.{IsTrue}
 use Rattle.memory_spec.specs.Memory.{Memory, byte_at}
 use Rattle.memory_spec.specs.Zones.{Zone}
-use Rattle.term_core_spec.specs.Value.{Bytes, Assignment, IsAssignment}
+use Rattle.term_core_spec.specs.declared.Width.TheVariants.{W32}
+use Rattle.term_core_spec.specs.Value.{Number, Bytes, Assignment, IsAssignment}
 use Rattle.graph_core_spec.specs.declared.Next.{Next}
 use Rattle.graph_core_spec.specs.Graph.{Graphs}
 use Rattle.graph_core_spec.specs.Run.{Waiting, State, Failed, go, leave, system_of}
@@ -15,7 +16,7 @@ use Rattle.c_types_spec.specs.declared.Jump.TheVariants.{Break, Continue}
 use Rattle.c_run_spec.specs.declared.Guard.{Guard}
 use Rattle.c_run_spec.specs.Execution as c
 use Rattle.c_run_spec.specs.Execution.{Flow, More, Broke, Went, Jumped, Gave, then_do, again, continued, switched, rounds}
-use Rattle.c_graph_spec.specs.State.{memory}
+use Rattle.c_graph_spec.specs.State.{memory, zone_low, zone_high}
 use Rattle.c_graph_spec.specs.Layout.{Exits, exits}
 use Rattle.c_graph_laws.specs.Together.{Alike, Gives, IsRunning}
 
@@ -28,11 +29,13 @@ abbrev pub exit_of : Exits → Jump → Next
 exit_of e Break = e.breaks
 exit_of e Continue = e.continues
 
--- what a function leaves
-pub record Left (returned : Option Scalar) (value : Option ℤ) (bytes : Memory) (s : Assignment) : Type 0 where
+-- what a function leaves; the zone is its caller's, too
+pub record Left (returned : Option Scalar) (value : Option ℤ) (bytes : Memory) (zone : Zone) (s : Assignment) : Type 0 where
   pub gives : Gives s returned value
   pub sorted : IsAssignment s
   pub memory_is : s memory ≡ Bytes (byte_at bytes)
+  pub low_is : s zone_low ≡ Number W32 zone.low
+  pub high_is : s zone_high ≡ Number W32 zone.high
 
 module _ (graphs : Graphs) (outermost g : ℕ) (types : List Scalar) (zone : Zone) (returned : Option Scalar) (below : List Waiting) where
   abbrev w : TransitionSystem State
@@ -46,7 +49,7 @@ module _ (graphs : Graphs) (outermost g : ℕ) (types : List Scalar) (zone : Zon
         → Follows d n x to e in_loop in_switch ended (Went st left)
     jumped : (jump : Jump) (st : c.State) (left k : ℕ) (s : Assignment) → n ≤ k + left → IsTrue (allowed jump in_loop in_switch) → Alike types st.locals st.memory zone s
         → after w k x ≡ go g (exit_of e jump) s below → Follows d n x to e in_loop in_switch ended (Jumped jump st left)
-    gave : (value : Option ℤ) (bytes : Memory) (left k : ℕ) (s : Assignment) → n ≤ k + left → Left returned value bytes s → after w k x ≡ leave s below
+    gave : (value : Option ℤ) (bytes : Memory) (left k : ℕ) (s : Assignment) → n ≤ k + left → Left returned value bytes zone s → after w k x ≡ leave s below
         → Follows d n x to e in_loop in_switch ended (Gave value bytes left)
 
   -- ---- after some steps

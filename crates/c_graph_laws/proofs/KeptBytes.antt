@@ -78,11 +78,7 @@ outputs_spare (Some number) local_type (Some type) = set_spares number (local_ty
 
 pub inputs_spare : (f : Setting) (number : ℕ) (arguments : List Core) → Spares memory (inputs f number arguments)
 unfolding inputs
-inputs_spare f number [] =
-    All-cons (λ (b : Binding). b.variable ≢ memory) (binding zone_low (open_term zone_low)) (binding zone_high (open_term zone_high) ∷ [])
-    (λ e. let f = ap (λ (v : Variable). v.family) e in cc)
-    (All-cons (λ (b : Binding). b.variable ≢ memory) (binding zone_high (open_term zone_high)) []
-    (λ e. let f = ap (λ (v : Variable). v.family) e in cc) (All-nil (λ (b : Binding). b.variable ≢ memory)))
+inputs_spare f number [] = All-nil (λ (b : Binding). b.variable ≢ memory)
 inputs_spare f number (argument ∷ rest) =
     All-append (λ (b : Binding). b.variable ≢ memory) (set_local number (type_of argument) (value_in f argument)) (inputs f (suc number) rest)
     (set_spares number (type_of argument) (value_in f argument)) (inputs_spare f (suc number) rest)

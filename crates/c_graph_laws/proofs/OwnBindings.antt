@@ -1,5 +1,5 @@
--- What the nodes of a function bind in its own frame: locals, whether they are set, memory and its result.
-use Rattle.std.proofs.Common.{◌≡◌, ◌≢◌, ℕ, zero, suc, ◌+◌, true, false, ℤ, refl, ap, subst, arith, List, [], ◌∷◌, ◌++◌, length, map, All, Option, Some, None}
+-- What the nodes of a function bind: locals, whether they are set, memory and its result, and no end of the zone.
+use Rattle.std.proofs.Common.{◌≡◌, ℕ, zero, suc, ◌+◌, true, false, ℤ, refl, ap, subst, arith, List, [], ◌∷◌, ◌++◌, length, map, All, Option, Some, None}
 use Rattle.std.specs.Prelude.{slice_get, option_and_then}
 use Rattle.std.proofs.lemmas.List.Elements.{All-nil, All-cons, All-append}
 use Rattle.term_core_spec.specs.declared.Variable.{Variable}
@@ -8,11 +8,12 @@ use Rattle.graph_core_spec.specs.declared.Next.{Next}
 use Rattle.graph_core_spec.specs.declared.Next.TheVariants.{At, Ret, Err}
 use Rattle.graph_core_spec.specs.Graph.{Binding, Node, Basic, Cond, Graph, node_at}
 use Rattle.graph_core_spec.specs.Graph as graph
-use Rattle.graph_core_spec.specs.Variables.{own_bindings}
+use Rattle.graph_core_spec.specs.Variables.{all_bindings}
+use Rattle.graph_core_spec.specs.Run.{is_zone_end}
 use Rattle.c_types_spec.specs.declared.Scalar.{Scalar}
 use Rattle.c_types_spec.specs.declared.TestPlace.TheVariants.{Before, After}
-use Rattle.c_types_spec.specs.Core.{Body, Typed, Action, Skip, Sequence, Evaluate, Set, Unset, Store, Call, If, Loop, Leave, Switch, Return, MissingReturn, Groups, no_groups, groups, type_of}
-use Rattle.c_graph_spec.specs.State.{local, is_set, memory, zone_low, zone_high, result, value_constant}
+use Rattle.c_types_spec.specs.Core.{Core, Body, Typed, Action, Skip, Sequence, Evaluate, Set, Unset, Store, Call, If, Loop, Leave, Switch, Return, MissingReturn, Groups, no_groups, groups, type_of}
+use Rattle.c_graph_spec.specs.State.{local, is_set, memory, result, value_constant}
 use Rattle.c_graph_spec.specs.Guards.{Place}
 use Rattle.c_graph_spec.specs.Layout.{Setting, Exits, exits, value_in, truth_in, tests_in, count, first, chain, guarded, binding, set_local, store_tests, memory_stored, argument_tests, inputs, outputs, result_put, selection, case_count, size, entry, otherwise, cases_of, step_entry, nodes, groups_nodes}
 use Rattle.c_graph_spec.specs.SourceGraph.{setting_of, graph_of, graphs_of}
@@ -27,32 +28,31 @@ mapped_item make (x ∷ xs) (suc i) y e = mapped_item make xs i y e
 -- ---- bindings
 
 abbrev Apart : Binding → Type 0
-Apart b = (b.variable ≢ zone_low) × (b.variable ≢ zone_high)
+Apart b = is_zone_end b.variable ≡ false
 
 abbrev IsApart : Node → Type 0
-IsApart node = All Apart (own_bindings node)
+IsApart node = All Apart (all_bindings node)
 
 set_apart : (number : ℕ) (type : Scalar) (x : Term) → All Apart (set_local number type x)
 set_apart number type x =
-    All-cons Apart (binding (local number type) x) (binding (is_set number) (truth true) ∷ [])
-    (λ e. let f = ap (λ (v : Variable). v.family) e in cc, λ e. let f = ap (λ (v : Variable). v.family) e in cc)
-    (All-cons Apart (binding (is_set number) (truth true)) []
-    (λ e. let f = ap (λ (v : Variable). v.family) e in cc, λ e. let f = ap (λ (v : Variable). v.family) e in cc) (All-nil Apart))
+    All-cons Apart (binding (local number type) x) (binding (is_set number) (truth true) ∷ []) refl
+    (All-cons Apart (binding (is_set number) (truth true)) [] refl (All-nil Apart))
 
 unset_apart : (number : ℕ) (x : Term) → All Apart (binding (is_set number) x ∷ [])
-unset_apart number x =
-    All-cons Apart (binding (is_set number) x) []
-    (λ e. let f = ap (λ (v : Variable). v.family) e in cc, λ e. let f = ap (λ (v : Variable). v.family) e in cc) (All-nil Apart)
+unset_apart number x = All-cons Apart (binding (is_set number) x) [] refl (All-nil Apart)
 
 memory_apart : (x : Term) → All Apart (binding memory x ∷ [])
-memory_apart x =
-    All-cons Apart (binding memory x) []
-    (λ e. let f = ap (λ (v : Variable). v.family) e in cc, λ e. let f = ap (λ (v : Variable). v.family) e in cc) (All-nil Apart)
+memory_apart x = All-cons Apart (binding memory x) [] refl (All-nil Apart)
 
 result_apart : (type : Scalar) (x : Term) → All Apart (binding (result type) x ∷ [])
-result_apart type x =
-    All-cons Apart (binding (result type) x) []
-    (λ e. let i : 2 ≡ 0 = ap (λ (v : Variable). v.index) e in omega arith, λ e. let i : 2 ≡ 1 = ap (λ (v : Variable). v.index) e in omega arith) (All-nil Apart)
+result_apart type x = All-cons Apart (binding (result type) x) [] refl (All-nil Apart)
+
+inputs_apart : (f : Setting) (number : ℕ) (arguments : List Core) → All Apart (inputs f number arguments)
+unfolding inputs
+inputs_apart f number [] = All-nil Apart
+inputs_apart f number (x ∷ rest) =
+    All-append Apart (set_local number (type_of x) (value_in f x)) (inputs f (suc number) rest)
+    (set_apart number (type_of x) (value_in f x)) (inputs_apart f (suc number) rest)
 
 outputs_apart : (place : Option ℕ) (local_type : ℕ → Scalar) (type : Option Scalar) → All Apart (result_put place local_type type)
 outputs_apart None local_type type = All-nil Apart
@@ -100,7 +100,9 @@ module _ (f : Setting) where
     nodes_apart (Call number function arguments place) at to e =
         let node = graph.Call (f.graph_number function) (inputs f 0 arguments) (outputs f function place) (at + length (argument_tests f arguments) + 1) in
         All-append IsApart (guarded (argument_tests f arguments) at node) (Basic [] to ∷ [])
-        (guarded_apart (argument_tests f arguments) at node (outputs_apart place f.local_type (f.function_type function).result))
+        (guarded_apart (argument_tests f arguments) at node
+        (All-append Apart (inputs f 0 arguments) (outputs f function place) (inputs_apart f 0 arguments)
+        (outputs_apart place f.local_type (f.function_type function).result)))
         (one_node (Basic [] to) (All-nil Apart))
     nodes_apart (If test a b) at to e =
         let node = Cond (truth_in f test) (entry f a (at + count f test + 1) to e) (entry f b (at + count f test + 1 + size f a) to e) in
@@ -152,10 +154,10 @@ graph_apart unit p body =
     All-cons IsApart (Basic [] (entry f body.action 1 Ret (exits Ret Ret))) (nodes f body.action 1 Ret (exits Ret Ret))
     (All-nil Apart) (nodes_apart f body.action 1 Ret (exits Ret Ret))
 
-pub no_zone : (unit : Typed) (p : Place) (g n : ℕ) (node : Node) → node_at (graphs_of unit p) g n ≡ Some node → All Apart (own_bindings node)
+pub no_zone : (unit : Typed) (p : Place) (g n : ℕ) (node : Node) → node_at (graphs_of unit p) g n ≡ Some node → All Apart (all_bindings node)
 no_zone unit p g n node e = by (slice_get (graphs_of unit p) g) refl e
   where
-    by : (o : Option Graph) → slice_get (graphs_of unit p) g ≡ o → option_and_then (λ (graph : Graph). slice_get graph.nodes n) o ≡ Some node → All Apart (own_bindings node)
+    by : (o : Option Graph) → slice_get (graphs_of unit p) g ≡ o → option_and_then (λ (graph : Graph). slice_get graph.nodes n) o ≡ Some node → All Apart (all_bindings node)
     by None is e = absurd (cc)
     by (Some there) is e =
         let made = mapped_item (graph_of unit p) unit.bodies g there is in

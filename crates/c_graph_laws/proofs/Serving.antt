@@ -90,7 +90,7 @@ module _ (unit : Typed) (p : Place) (zone : Zone) (outermost g : ℕ) (body : Bo
 
   -- where a body ends that ends by a return or a guard
   ended : (d n : ℕ) (x : State) (to : Next) (e : Exits) (ends : Bool) → ends ≡ true → (f : Flow) → Follows graphs outermost g body.locals zone body.signature.result below d n x to e false false ends f
-      → Ends graphs outermost below body.signature.result d n x (calling.returned f)
+      → Ends graphs outermost below body.signature.result zone d n x (calling.returned f)
   ended d n x to e ends is _ (more k enough goes) = unfinished k enough goes
   ended d n x to e ends is _ (broke guard offset k at) = breaks_off guard offset k at
   ended d n x to e ends is _ (went st left k s enough not_ended alike at) = absurd (cc)
@@ -99,8 +99,8 @@ module _ (unit : Typed) (p : Place) (zone : Zone) (outermost g : ℕ) (body : Bo
   ended d n x to e ends is _ (gave value bytes left k s enough left_is at) = returned value bytes left k s enough left_is at
 
   -- after one more step
-  one_later : (d n : ℕ) (x y : State) (called : Called) → after (system_of graphs outermost) 1 x ≡ y → Ends graphs outermost below body.signature.result d n y called
-      → Ends graphs outermost below body.signature.result (suc d) (suc n) x called
+  one_later : (d n : ℕ) (x y : State) (called : Called) → after (system_of graphs outermost) 1 x ≡ y → Ends graphs outermost below body.signature.result zone d n y called
+      → Ends graphs outermost below body.signature.result zone (suc d) (suc n) x called
   one_later d n x y _ at (unfinished k enough goes) =
       unfinished (1 + k) (omega arith) (subst IsRunning (sym (joins graphs outermost g 1 k x y (after (system_of graphs outermost) k y) at refl)) goes)
   one_later d n x y _ at (breaks_off guard offset k is) = breaks_off guard offset (1 + k) (joins graphs outermost g 1 k x y Failed at is)
@@ -117,7 +117,7 @@ module _ (unit : Typed) (p : Place) (placed : IsPlace p) (zone : Zone) (outermos
   abbrev pub Serves : (d : ℕ) → Calls → Type 0
   Serves d calls = (function : List ℕ) (callee : Body) → Reaches unit name function → body_named unit.bodies function ≡ Some callee
       → (vs : List ℤ) (bytes : Memory) (s : Assignment) (below : List Waiting) (n : ℕ) → Alike callee.locals (locals_at_entry callee.locals vs) bytes zone s
-      → Ends all_graphs outermost below callee.signature.result d n (Running (body_number function unit.bodies) 0 s below) (calls function vs bytes n)
+      → Ends all_graphs outermost below callee.signature.result zone d n (Running (body_number function unit.bodies) 0 s below) (calls function vs bytes n)
 
   typed_body : (function : List ℕ) (callee : Body) → body_named unit.bodies function ≡ Some callee → Found unit.bodies (λ (b : Body). IsTypedBody unit b) (graph_of unit p) function callee
   typed_body function callee e = found_in unit.bodies (λ (b : Body). IsTypedBody unit b) (graph_of unit p) function callee is_typed e
@@ -140,12 +140,12 @@ module _ (unit : Typed) (p : Place) (placed : IsPlace p) (zone : Zone) (outermos
     -- where the caller goes on
     caller : (function : List ℕ) (type : FunctionType) (result : Option ℕ) → entry_of unit.functions function ≡ Some type → Receives (scope_of unit body) type result
         → ResultExtent type.result → (st : c.State) (s callee_s : Assignment) → Alike body.locals st.locals st.memory zone s
-        → (v : Option ℤ) (bytes : Memory) → Left type.result v bytes callee_s → Alike body.locals (received body.locals st.locals result v) bytes zone (resumed (outputs f function result) callee_s s)
+        → (v : Option ℤ) (bytes : Memory) → Left type.result v bytes zone callee_s → Alike body.locals (received body.locals st.locals result v) bytes zone (resumed (outputs f function result) callee_s s)
     caller function type None named receives extent st s callee_s alike v bytes left = alike_on unit p zone body st.locals st.memory bytes s callee_s alike type.result v left
     caller function type (Some number) named receives extent st s callee_s alike v bytes left =
         alike_result unit p zone body st.locals st.memory bytes s callee_s alike function type number receives.0 receives.1 named receives.3 receives.2
         (subst ResultExtent receives.3 extent) (at_item IsPlain body.locals number receives.0 body_extents.locals receives.2) v
-        (subst (λ (o : Option Scalar). Left o v bytes callee_s) receives.3 left)
+        (subst (λ (o : Option Scalar). Left o v bytes zone callee_s) receives.3 left)
 
     call_acts : (number : ℕ) (function : List ℕ) (arguments : List Core) (result : Option ℕ) → IsTyped (scope_of unit body) (Call number function arguments result)
         → ActionExtents (Call number function arguments result) → Reaches unit name function
@@ -190,14 +190,14 @@ module _ (unit : Typed) (p : Place) (placed : IsPlace p) (zone : Zone) (outermos
             joined j k i x y z a b = joins all_graphs outermost g j k x y z a b
 
             ends : (k : ℕ) → after (system_of all_graphs outermost) k (go g from s below) ≡ Running (body_number function unit.bodies) 0 (entered (inputs f 0 arguments) s) (frame ∷ below)
-                → (called : Called) → Ends all_graphs outermost (frame ∷ below) callee.0.signature.result d n (Running (body_number function unit.bodies) 0 (entered (inputs f 0 arguments) s) (frame ∷ below)) called
+                → (called : Called) → Ends all_graphs outermost (frame ∷ below) callee.0.signature.result zone d n (Running (body_number function unit.bodies) 0 (entered (inputs f 0 arguments) s) (frame ∷ below)) called
                 → Going (after_call body.locals st.locals result called)
             ends k at _ (unfinished i enough goes) = more (k + i) (omega arith) (subst IsRunning (sym (joined k i 0 (go g from s below) _ _ at refl)) goes)
             ends k at _ (breaks_off guard offset i is) = broke guard offset (k + i) (joined k i 0 (go g from s below) _ Failed at is)
             ends k at _ (returned v bytes left i callee_s enough left_is is) =
                 went (c.state (received body.locals st.locals result v) bytes) left (k + i + 1) (resumed (outputs f function result) callee_s s) (omega arith) refl
                 (caller function type result named receives (subst (λ (t : FunctionType). ResultExtent t.result) (sym is_signature) (sized_body function callee.0 callee.1).result) st s callee_s alike v bytes
-                (subst (λ (t : FunctionType). Left t.result v bytes callee_s) (sym is_signature) left_is))
+                (subst (λ (t : FunctionType). Left t.result v bytes zone callee_s) (sym is_signature) left_is))
                 (joined (k + i) 1 0 (go g from s below) (go g (At h.1) (resumed (outputs f function result) callee_s s) below) (go g to (resumed (outputs f function result) callee_s s) below)
                 (joined k i 0 (go g from s below) _ _ at is) (empty all_graphs outermost g (At h.1) to (resumed (outputs f function result) callee_s s) below h.4))
 
@@ -239,7 +239,7 @@ module _ (unit : Typed) (p : Place) (placed : IsPlace p) (zone : Zone) (outermos
       let g = body_number function unit.bodies in
       let holds = (typed_body function callee e).holds in
       let sized = sized_body function callee e in
-      subst (λ (o : Option Body). Ends all_graphs outermost below callee.signature.result (suc d) (suc n) (Running g 0 s below)
+      subst (λ (o : Option Body). Ends all_graphs outermost below callee.signature.result zone (suc d) (suc n) (Running g 0 s below)
       (runs_body (setting_at unit p zone) (runs (setting_at unit p zone) d) d o vs bytes n)) (sym e)
       (one_later unit p zone outermost g callee below d n (Running g 0 s below) (go g (begin callee) s below) _ (empty all_graphs outermost g (At 0) (begin callee) s below (starts function callee e))
       (ended unit p zone outermost g callee below d n (go g (begin callee) s below) Ret (exits Ret Ret) _ holds.ended _

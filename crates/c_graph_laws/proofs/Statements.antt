@@ -120,12 +120,14 @@ module _ (unit : Typed) (p : Place) (placed : IsPlace p) (zone : Zone) where
     -- ---- `return`
 
     returned_value : (t : Scalar) (x : Term) (v : ℤ) (k : ℕ) (st : c.State) (s : Assignment) → Alike body.locals st.locals st.memory zone s → body.signature.result ≡ Some t → IsOf x t
-        → k < 2 ^ t.width → v ≡ of_bits t k → value s x ≡ Number (width_of t) k → Left body.signature.result (Some v) st.memory (bound (binding (result t) x ∷ []) s s)
+        → k < 2 ^ t.width → v ≡ of_bits t k → value s x ≡ Number (width_of t) k → Left body.signature.result (Some v) st.memory zone (bound (binding (result t) x ∷ []) s s)
     returned_value t x v k st s alike is sorted_x small vi word_is = record {
       gives = subst (λ (o : Option Scalar). Gives (bound (binding (result t) x ∷ []) s s) o (Some v)) (sym is)
           (gives_some t v (record { bits = k; below = small; word = bound_here s (result t) x [] s ∙ word_is; value_is = vi }));
       sorted = bound_sorted (binding (result t) x ∷ []) s s (All-cons IsBinding (binding (result t) x) [] sorted_x (All-nil IsBinding)) alike.sorted alike.sorted;
       memory_is = bound_there s memory (result t) x [] s (λ e. let q = ap (λ (y : Variable). y.family) e in cc) ∙ bound_none s memory s ∙ alike.memory_is;
+      low_is = bound_there s zone_low (result t) x [] s (λ e. let i : 0 ≡ 2 = ap (λ (y : Variable). y.index) e in omega arith) ∙ bound_none s zone_low s ∙ alike.low_is;
+      high_is = bound_there s zone_high (result t) x [] s (λ e. let i : 1 ≡ 2 = ap (λ (y : Variable). y.index) e in omega arith) ∙ bound_none s zone_high s ∙ alike.high_is;
     }
 
     pub return_follows : (calls : Calls) (v : Option Core) → IsReturned (scope_of unit body) v → ActionExtents (Return v)
@@ -133,7 +135,7 @@ module _ (unit : Typed) (p : Place) (placed : IsPlace p) (zone : Zone) where
         → Flowing n (go g from s below) to e in_loop in_switch true (does (setting_at unit p zone) calls body.locals most (Return v) st n)
     unfolding does after
     return_follows calls None is h from to e in_loop in_switch occurs st n s alike =
-        gave None st.memory n 0 s (omega arith) (record { gives = subst (λ (o : Option Scalar). Gives s o None) (sym is) gives_none; sorted = alike.sorted; memory_is = alike.memory_is })
+        gave None st.memory n 0 s (omega arith) (record { gives = subst (λ (o : Option Scalar). Gives s o None) (sym is) gives_none; sorted = alike.sorted; memory_is = alike.memory_is; low_is = alike.low_is; high_is = alike.high_is })
         (ap (λ (next : Next). go g next s below) occurs)
     return_follows calls (Some x) is h from to e in_loop in_switch occurs st n s alike =
         evaluates x is.0 is.2 h from occurs.0 to e in_loop in_switch true (λ v. Gave (Some v) st.memory n) occurs.1 st n s alike (λ v k small vi word tr.

@@ -28,7 +28,7 @@ module _ (unit : Typed) (p : Place) (zone : Zone) (name : List ℕ) (body : Body
   x = Running (body_number name unit.bodies) 0 values []
 
   abbrev Ending : ℕ → Called → Type 0
-  Ending n called = Ends (graphs_of unit p) (body_number name unit.bodies) [] body.signature.result n n x called
+  Ending n called = Ends (graphs_of unit p) (body_number name unit.bodies) [] body.signature.result zone n n x called
 
   ending : (n : ℕ) → Ending n (runs (setting_at unit p zone) n name arguments bytes n)
   ending n = serves unit p start.placed zone (body_number name unit.bodies) start.typed.bodies_typed (unit_extents unit start.typed start.sizes) name start.bodies n name body itself start.body_is arguments bytes values [] n start.alike

@@ -166,8 +166,7 @@ module _ (unit : Typed) (p : Place) (placed : IsPlace p) (extents : UnitExtents 
 
   inputs_sorted : (index : ℕ) (arguments : List Core) (types : List Scalar) → HaveTypes (scope_of unit body) arguments types → AllExtents arguments → AreBindings (inputs f index arguments)
   unfolding inputs
-  inputs_sorted index _ _ typed.no_arguments h =
-      All-cons IsBinding (binding zone_low (open_term zone_low)) (binding zone_high (open_term zone_high) ∷ []) (open_sorted zone_low) (one_binding zone_high (open_term zone_high) (open_sorted zone_high))
+  inputs_sorted index _ _ typed.no_arguments h = All-nil IsBinding
   inputs_sorted index _ _ (typed.some_argument x t arguments types has haves) h =
       All-append IsBinding (set_local index (type_of x) (value_in f x)) (inputs f (suc index) arguments) (set_bindings index (type_of x) (value_in f x) (typed_word x t has h.0)) (inputs_sorted (suc index) arguments types haves h.1)
 

@@ -247,7 +247,7 @@ call_nodes =
     Basic [] (At 1)
     ∷ tests s0 2
     ∷ Call 0
-    (binding (local 0 int) v0 ∷ binding (is_set 0) (truth true) ∷ binding zone_low (open_term zone_low) ∷ binding zone_high (open_term zone_high) ∷ [])
+    (binding (local 0 int) v0 ∷ binding (is_set 0) (truth true) ∷ [])
     (binding (local 1 char) (low W8 (open_term (result int))) ∷ binding (is_set 1) (truth true) ∷ []) 3
     ∷ Basic [] (At 4)
     ∷ tests (open_term (is_set 1)) 5

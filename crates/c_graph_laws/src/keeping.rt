@@ -8,8 +8,8 @@ pub fn runs_keep_bytes()
     ensures { RunsKeepBytes }
 {}
 
-/// A function's own frame has the same zone while it runs: only a call binds the zone's ends, in
-/// the frame of its callee.
+/// The zone is the same at every step: no node binds its ends, in its own function's frame or in
+/// that of a callee.
 pub fn nodes_bind_no_zone()
     ensures { NodesBindNoZone }
 {}

@@ -11,7 +11,7 @@ use Rattle.c_types_spec.specs.declared.Scalar.{Scalar}
 use Rattle.c_types_spec.specs.declared.TestPlace.TheVariants.{Before, After}
 use Rattle.c_types_spec.specs.declared.Jump.TheVariants.{Break, Continue}
 use Rattle.c_types_spec.specs.Core.{Core, FunctionType, Action, Skip, Sequence, Evaluate, Set, Unset, Store, Call, If, Loop, Leave, Switch, Return, MissingReturn, Groups, no_groups, groups, type_of}
-use Rattle.c_graph_spec.specs.State.{width_of, local, is_set, memory, zone_low, zone_high, result, value_constant}
+use Rattle.c_graph_spec.specs.State.{width_of, local, is_set, memory, result, value_constant}
 use Rattle.c_graph_spec.specs.Values.{object, no_object, at_width, stored, value_term, truth_term}
 use Rattle.c_graph_spec.specs.Guards.{Place, tests, write_tests}
 
@@ -83,9 +83,9 @@ unfoldable pub argument_tests : Setting → List Core → List Term
 argument_tests f [] = []
 argument_tests f (argument ∷ rest) = tests_in f argument ++ argument_tests f rest
 
--- a callee starts with its parameters, from a number on, and with the zone
+-- a callee starts with its parameters, from a number on; memory and the ends of the zone are its caller's
 unfoldable pub inputs : Setting → (number : ℕ) → List Core → List Binding
-inputs f number [] = binding zone_low (open_term zone_low) ∷ binding zone_high (open_term zone_high) ∷ []
+inputs f number [] = []
 inputs f number (argument ∷ rest) = set_local number (type_of argument) (value_in f argument) ++ inputs f (suc number) rest
 
 -- its result, converted to the type of the local that it is put into

@@ -1,5 +1,6 @@
 -- The variables of a C function: its locals, parameters first, each with a truth value that says whether it is set; the
--- memory; and three further words: the zone that is barred, from `low` to below `high`, and the result.
+-- memory; and three further words: the zone that is barred, from `low` to below `high`, and the result. Memory and the ends
+-- of the zone are the same for caller and callee.
 use Rattle.std.specs.Prelude.{ℕ, ℤ, ◌==◌, if◌then◌else◌}
 use Rattle.term_core_spec.specs.declared.Width.{Width}
 use Rattle.term_core_spec.specs.declared.Width.TheVariants.{W8, W16, W32, W64}

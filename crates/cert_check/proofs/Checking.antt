@@ -26,7 +26,8 @@ use Rattle.cert_check.specs.declared.logs.OpenLine.{OpenLine}
 use Rattle.cert_check.specs.declared.walk.Walk.{Walk}
 use Rattle.cert_check.specs.declared.checker.Checker.{Checker}
 use Rattle.cert_check_frames.specs.Parts.{IsNamed}
-use Rattle.cert_check.specs.Walks.{AreMembers, IsPart, walk_jobs, inside, Expecting, IsWalk, StepsTo, Goes as WalkGoes, placed_fault}
+use Rattle.cert_check.specs.Members.{AreMembers}
+use Rattle.cert_check.specs.Walks.{IsPart, walk_jobs, inside, Expecting, IsWalk, StepsTo, Goes as WalkGoes, placed_fault}
 use Rattle.cert_check.specs.Logs.{no_log, in_log, CanStep, OpensLog, GoesLog, IsStepFault, refused, unclosed, TakesOne, StepsLog}
 use Rattle.cert_check.specs.Checkers.{IsReady, steps_left, Expects, IsHere, IsNextLine, Leads, IsBegunBefore, IsFaultBefore, Goes}
 use Rattle.cert_check.proofs.LogRules.{goes_on, is_last, is_refused, is_open}
@@ -255,7 +256,7 @@ module _ (old : Checker) (one : Step) (place part : ℕ) (before : List ℕ) (la
   named_last members function f parts are there =
       let ends_so = same_from_push before there.before part there.index (sym last ∙ there.split) in
       let listed = is_member Codes members are there.index function f there.found there.member in
-      record { function = function; there = ap (slice_get Codes) ends_so.1 ∙ there.found; named = sym listed.named }
+      record { function = function; there = ap (slice_get Codes) ends_so.1 ∙ there.found; named = sym listed.listed.named }
 
   same_open : (found : OpenLine) → old.log ≡ Some found → current ≡ found
   same_open found also = same_Some current found (sym is ∙ also)
@@ -305,7 +306,7 @@ module _ (old : Checker) (one : Step) (place part : ℕ) (before : List ℕ) (la
             let same = same_open found also in
             let took : TakesOne part found new steps one place (Ok true) = subst (λ (o : OpenLine). TakesOne part o new steps one place (Ok true)) same (takes steps (ap (λ (o : OpenLine). open_of o.closer) same ∙ is_log)) in
             let below = walk_jobs old.walk function in
-            let p = part_of fs parts f (unfolded f) in
+            let p = part_of parts f (unfolded f) in
             let more = InLog (offsets found.place) steps.variables (steps.clauses ++ one.literals ∷ []) new.left ∷ below in
             let passes = goes_on p (offsets place) (offsets found.place) steps below one new.left found.left took.2 took.0 in
             let to = Inside parts f (unfolded f) more in
@@ -351,7 +352,7 @@ module _ (old : Checker) (one : Step) (place part : ℕ) (before : List ℕ) (la
             let same = same_open found also in
             let took : TakesOne part found new steps one place (Ok false) = subst (λ (o : OpenLine). TakesOne part o new steps one place (Ok false)) same (takes steps (ap (λ (o : OpenLine). open_of o.closer) same ∙ is_log)) in
             let below = walk_jobs old.walk function in
-            let p = part_of fs parts f (unfolded f) in
+            let p = part_of parts f (unfolded f) in
             let to = Inside parts f (unfolded f) below in (
               to,
               walks.goes_on (offsets place) (Inside parts f (unfolded f) (InLog (offsets found.place) steps.variables steps.clauses found.left ∷ below)) to (LogStep one) refl
@@ -377,7 +378,7 @@ module _ (old : Checker) (one : Step) (place part : ℕ) (before : List ℕ) (la
           named_last members function f parts are there,
           walks.stops (offsets place) (Inside parts f (unfolded f) jobs) (LogStep one) (offsets place) f.listed.name (lines.Breaks fault.Step) refl
               (rules.next_wrong parts f (unfolded f) jobs (LogStep one) (offsets place) (lines.Breaks fault.Step)
-              (is_refused (part_of fs parts f (unfolded f)) (offsets place) (offsets current.place) steps below one current.left hint kind is_so)),
+              (is_refused (part_of parts f (unfolded f)) (offsets place) (offsets current.place) steps below one current.left hint kind is_so)),
         )
     fault_step members fs offsets steps function f parts are there _ (unclosed follows empty none) =
         let below = walk_jobs old.walk function in
@@ -386,7 +387,7 @@ module _ (old : Checker) (one : Step) (place part : ℕ) (before : List ℕ) (la
           named_last members function f parts are there,
           walks.stops (offsets place) (Inside parts f (unfolded f) jobs) (LogStep one) (offsets current.place) f.listed.name (lines.Breaks fault.Unclosed) refl
               (rules.next_wrong parts f (unfolded f) jobs (LogStep one) (offsets current.place) (lines.Breaks fault.Unclosed)
-              (is_open (part_of fs parts f (unfolded f)) (offsets place) (offsets current.place) steps below one current.left none follows empty)),
+              (is_open (part_of parts f (unfolded f)) (offsets place) (offsets current.place) steps below one current.left none follows empty)),
         )
 
     fault_place : (steps : OpenLog) (broken : Placed) → IsStepFault part current steps one place broken → (n : ℕ) → place < n → current.place < n → broken.place < n

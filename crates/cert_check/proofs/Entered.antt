@@ -30,15 +30,16 @@ use Rattle.cert_check.specs.declared.fault.NamedFault.{NamedFault}
 use Rattle.cert_check.specs.declared.fault.PartFault.{PartFault}
 use Rattle.cert_check.specs.declared.fault.NamedFault.TheVariants.{Broken, Above}
 use Rattle.cert_check.specs.declared.fault.PartFault.TheVariants as inner
-use Rattle.cert_check_frames.specs.declared.jobs.Job.{Job}
+use Rattle.cert_check_jobs.specs.declared.jobs.Job.{Job}
 use Rattle.cert_check_frames.specs.declared.listed.Listed.{Listed}
 use Rattle.cert_check.specs.declared.walk.Walk.{Walk}
-use Rattle.cert_check_frames.specs.Listed.{IsListed, frame_at}
+use Rattle.cert_check_frames.specs.Listed.{frame_at}
 use Rattle.cert_check.specs.Jobs.{jobs_of}
 use Rattle.cert_check.specs.Expectations.{IsOfProof, of_binary, of_source, of_proof, AreOf, no_job, a_proof, a_log, IsNext, AreAfter}
 use Rattle.cert_check.specs.Steps.{Comes, IsStep}
 use Rattle.cert_check_frames.specs.Parts.{AreIndices, IsNamed, HasPart, IsFreeAt, IsMissingAt}
-use Rattle.cert_check.specs.Walks.{ArePicked, no_pick, AreMembers, IsPart, walk_jobs, IsState, between, unfolding_part, inside, Expecting, at_header, at_first, in_part, Keeps, IsSound, IsWalk, StepsTo, ExpectsAfter, Goes, IsInside, IsPlain, Breaks, ComesAt, IsInPart, GoesInside, BeginsAt, Begins, Ends, named_fault}
+use Rattle.cert_check.specs.Members.{AreMembers, IsMemberOf}
+use Rattle.cert_check.specs.Walks.{ArePicked, no_pick, IsPart, walk_jobs, IsState, between, unfolding_part, inside, Expecting, at_header, at_first, in_part, Keeps, IsSound, IsWalk, StepsTo, ExpectsAfter, Goes, IsInside, IsPlain, Breaks, ComesAt, IsInPart, GoesInside, BeginsAt, Begins, Ends, named_fault}
 use Rattle.cert_check_frames.proofs.Indexed.{one_item}
 use Rattle.cert_check.proofs.Pushed.{no_jobs}
 use Rattle.cert_check.proofs.Picked.{member_there, picked_more, is_free, never_free, is_missing, none_missing}
@@ -78,7 +79,7 @@ never_header _ (of_proof room) is = absurd (cc)
 
 alone_of : (e : Expected) (others : List Expected) (jobs : List Job) → AreOf (e ∷ others) jobs → e ≡ TheParts → others ≡ []
 alone_of _ _ _ no_job is = refl
-alone_of e others jobs (a_proof _ _ below _ premises of are same) is = absurd (never_part e of is)
+alone_of e others jobs (a_proof _ _ below _ x of are same) is = absurd (never_part e of is)
 alone_of _ others jobs (a_log _ below _ goal are same) is = absurd (cc)
 
 alone : (walk : Walk) (e : Expected) (others : List Expected) → Expecting walk (e ∷ others) → e ≡ TheParts → others ≡ []
@@ -88,7 +89,7 @@ alone walk e others (in_part _ some are) is = alone_of e others walk.jobs.items 
 
 header_of : (e : Expected) (others : List Expected) (jobs : List Job) → AreOf (e ∷ others) jobs → e ≡ AHeader → ⊥
 header_of _ _ _ no_job is = absurd (cc)
-header_of e others jobs (a_proof _ _ below _ premises of are same) is = never_header e of is
+header_of e others jobs (a_proof _ _ below _ x of are same) is = never_header e of is
 header_of _ others jobs (a_log _ below _ goal are same) is = absurd (cc)
 
 -- before the version there is no part
@@ -122,7 +123,7 @@ header_goes codes walk index at =
 
 jobs_none : (e : Expected) (others : List Expected) (jobs : List Job) → AreOf (e ∷ others) jobs → e ≡ TheParts → jobs ≡ []
 jobs_none _ _ _ no_job is = refl
-jobs_none e others jobs (a_proof _ _ below _ premises of are same) is = absurd (never_part e of is)
+jobs_none e others jobs (a_proof _ _ below _ x of are same) is = absurd (never_part e of is)
 jobs_none _ others jobs (a_log _ below _ goal are same) is = absurd (cc)
 
 no_spec_jobs : (walk : Walk) (function : Listed) → walk.jobs.items ≡ [] → walk_jobs walk function ≡ []
@@ -182,7 +183,7 @@ module _ (codes : List Listed) (old now : Walk) (name : List ℕ) (stack line in
 
   -- the member of its index
   free_at : (members : List Member) → (are : AreMembers codes members) → (parts : List Member) → ArePicked members old.parts.items parts → (f : Member) → slice_get members index ≡ Some f
-      → IsListed is_named.function f.listed → IsFree members parts f.listed.name f
+      → IsMemberOf is_named.function f → IsFree members parts f.listed.name f
   free_at members are parts picked f there is =
       is_free codes members are old.parts.items parts picked index is_named.function f is_named.there there is
       (λ has. free (subst (HasPart codes old.parts.items) is_named.named has))
@@ -206,8 +207,8 @@ module _ (codes : List Listed) (old now : Walk) (name : List ℕ) (stack line in
       let was = shut_here members s state in
       let next = Unfolding was.parts f (unfolded f) in
       let accepts : parts_of.Accepts fs members offset s (Function name stack) next =
-      subst (λ (n : List ℕ). parts_of.Accepts fs members offset s (Function n stack) next) (is.named ∙ is_named.named)
-      (subst (λ (n : ℕ). parts_of.Accepts fs members offset s (Function f.listed.name n) next) (is.stack_is ∙ begins.2)
+      subst (λ (n : List ℕ). parts_of.Accepts fs members offset s (Function n stack) next) (is.listed.named ∙ is_named.named)
+      (subst (λ (n : ℕ). parts_of.Accepts fs members offset s (Function f.listed.name n) next) (is.listed.stack_is ∙ begins.2)
       (parts_of.function s was.parts f was.has (free_at members are was.parts was.picked f found.1 is))) in
       let part : IsPart codes members now is_named.function f was.parts = record {
         before = old.parts.items;
@@ -219,7 +220,7 @@ module _ (codes : List Listed) (old now : Walk) (name : List ℕ) (stack line in
       } in (
         next,
         walks.goes_on offset s next (Function name stack) refl accepts,
-        inr (unfolding_part is_named.function f was.parts part (stays begins ∙ ap (λ (frame : Frame). spec.Prove AtEntry frame ∷ []) (sym is.frame_is))),
+        inr (unfolding_part is_named.function f was.parts part (stays begins ∙ ap (λ (frame : Frame). spec.Prove AtEntry frame ∷ []) (sym is.listed.frame_is))),
       )
 
   other_stack : (function_stack : is_named.function.stack ≡ stack → ⊥) → (fs : Functions) (members : List Member) (offset : ℕ) → AreMembers codes members → (s : State)
@@ -229,12 +230,12 @@ module _ (codes : List Listed) (old now : Walk) (name : List ℕ) (stack line in
       let f = found.0 in
       let is = found.2 in
       let was = shut_here members s state in
-      let same : f.listed.name ≡ name = is.named ∙ is_named.named in
+      let same : f.listed.name ≡ name = is.listed.named ∙ is_named.named in
       let free_here = subst (λ (n : List ℕ). IsFree members was.parts n f) same (free_at members are was.parts was.picked f found.1 is) in (
         name,
         is_named,
         walks.stops offset s (Function name stack) offset name (lines.Breaks fault.Stack) refl
-            (parts_of.other_stack s was.parts name stack f was.has free_here (λ e. apart (sym is.stack_is ∙ sym e))),
+            (parts_of.other_stack s was.parts name stack f was.has free_here (λ e. apart (sym is.listed.stack_is ∙ sym e))),
       )
 
   begun_goes : (result : Result (Unit {0}) (Refusal NamedFault)) → BeginsAt is_named.function old now index stack result → Goes codes old now (Function name stack) line result
@@ -339,7 +340,7 @@ module _ (codes : List Listed) (walk : Walk) (at : IsWalk codes walk End) (index
       let f = found.0 in
       let was = shut_end members s state in (
         f.listed.name,
-        record { function = missing.0; there = missing.1; named = sym found.2.named },
+        record { function = missing.0; there = missing.1; named = sym found.2.listed.named },
         walks.stops offset s End offset f.listed.name (lines.Breaks fault.Missing) refl
             (parts_of.lacking s was.parts f.listed was.has
             (is_missing codes members are walk.parts.items was.parts was.picked k missing.0 f missing.1 found.1 found.2 missing.2 missing.3)),
@@ -465,7 +466,7 @@ module _ (codes : List Listed) (old now : Walk) (line : CodeLine) (index part : 
       by e others (in_part _ some are) allowed = in_part (after e (line_of line) ++ others) (some_now same) (after_line e others are allowed)
 
   breaks_there : (fs : Functions) (members : List Member) (offset : ℕ) (s : State) (x : IsLast codes members old function s) (rule : RuleWord)
-      → Breaks (part_of fs x.parts x.f (unfolded x.f)) offset (walk_jobs old function) (line_of line) rule
+      → Breaks (part_of x.parts x.f (unfolded x.f)) offset (walk_jobs old function) (line_of line) rule
       → Takes fs members is_known (Going offset s) (line_of line) (Stopped offset x.f.listed.name (lines.Breaks rule))
   breaks_there fs members offset s x rule (inl fails) =
       walks.stops offset s (line_of line) offset x.f.listed.name (lines.Breaks rule) fails.0
@@ -475,7 +476,7 @@ module _ (codes : List Listed) (old now : Walk) (line : CodeLine) (index part : 
       (walks.unknown offset s (line_of line) x.f (begun_there x.parts x.f (walk_jobs old function) s x.has) later.0)
 
   steps_inside : (result : Result (Unit {0}) (Refusal NamedFault)) → now.parts ≡ old.parts → (fs : Functions) (members : List Member) (offset : ℕ) (s : State) → (x : IsLast codes members old function s)
-      → ComesAt (part_of fs x.parts x.f (unfolded x.f)) offset (walk_jobs old function) (walk_jobs now function) (line_of line) part result
+      → ComesAt (part_of x.parts x.f (unfolded x.f)) offset (walk_jobs old function) (walk_jobs now function) (line_of line) part result
       → StepsTo codes fs members offset now s (line_of line) index result
   steps_inside (Ok done) same fs members offset s x comes =
       let next = Inside x.parts x.f (unfolded x.f) (walk_jobs now function) in
@@ -493,7 +494,7 @@ module _ (codes : List Listed) (old now : Walk) (line : CodeLine) (index part : 
         inr (inside function x.f x.parts here),
       )
   steps_inside (Err (Fault (Broken (named.Listed k) rule))) same fs members offset s x comes =
-      let here : IsNamed codes part x.f.listed.name = record { function = function; there = function_there; named = sym x.is.named } in
+      let here : IsNamed codes part x.f.listed.name = record { function = function; there = function_there; named = sym x.is.listed.named } in
       (x.f.listed.name, subst (λ (n : ℕ). IsNamed codes n x.f.listed.name) (sym comes.0) here, breaks_there fs members offset s x rule comes.1)
   steps_inside (Err (Fault (Broken (named.Line n) rule))) same fs members offset s x comes = absurd comes
   steps_inside (Err (Fault (Above q))) same fs members offset s x comes = (
@@ -519,26 +520,26 @@ no_relation _ (of_proof room) t h = absurd (cc)
 
 never_relation : (t : List Symbol) (e : Expected) (others : List Expected) (jobs : List Job) → AreOf (e ∷ others) jobs → can_stand e (Relation t) ≡ true → ⊥
 never_relation t _ _ _ no_job h = absurd (cc)
-never_relation t e others jobs (a_proof _ _ below _ premises of are same) h = no_relation e of t h
+never_relation t e others jobs (a_proof _ _ below _ x of are same) h = no_relation e of t h
 never_relation t _ others jobs (a_log _ below _ goal are same) h = absurd (cc)
 
 -- a line that is no log, Leaf or Case and of a rule that is checked can't be next
 pub no_other_line : (line : CodeLine) (jobs : List Job) → IsNext jobs (line_of line) → IsInside line → is_known (line_of line) ≡ true → ((n : ℕ) → line ≡ code.Leaf n → ⊥)
-    → ((t : _) → line ≡ code.Case t → ⊥) → IsPlain line → ⊥
-no_other_line code.Header jobs next is checked no_leaf no_case plain = absurd (cc)
-no_other_line (code.Function part) jobs next is checked no_leaf no_case plain = absurd (cc)
-no_other_line (code.InlineBinary p) jobs next is checked no_leaf no_case plain = absurd (cc)
-no_other_line (code.InlineSource p) jobs next is checked no_leaf no_case plain = absurd (cc)
-no_other_line (code.Leaf n) jobs next is checked no_leaf no_case plain = no_leaf n refl
-no_other_line (code.Case t) jobs next is checked no_leaf no_case plain = no_case t refl
-no_other_line (code.RestrictBinary r) jobs next is checked no_leaf no_case plain = absurd (cc)
-no_other_line (code.RestrictSource r) jobs next is checked no_leaf no_case plain = absurd (cc)
-no_other_line (code.Split s) jobs next is checked no_leaf no_case plain = absurd (cc)
-no_other_line (code.Call c) jobs next is checked no_leaf no_case plain = absurd (cc)
-no_other_line (code.Relation t) jobs next is checked no_leaf no_case plain = never_relation t.value.items next.expected next.others jobs next.are next.allowed
-no_other_line (code.Log n) jobs next is checked no_leaf no_case plain = absurd (cc)
-no_other_line (code.Step k h) jobs next is checked no_leaf no_case plain = absurd (cc)
-no_other_line code.End jobs next is checked no_leaf no_case plain = absurd (cc)
+    → ((t : _) → line ≡ code.Case t → ⊥) → ((r : _) → line ≡ code.RestrictBinary r → ⊥) → ((r : _) → line ≡ code.RestrictSource r → ⊥) → IsPlain line → ⊥
+no_other_line code.Header jobs next is checked no_leaf no_case no_binary no_source plain = absurd (cc)
+no_other_line (code.Function part) jobs next is checked no_leaf no_case no_binary no_source plain = absurd (cc)
+no_other_line (code.InlineBinary p) jobs next is checked no_leaf no_case no_binary no_source plain = absurd (cc)
+no_other_line (code.InlineSource p) jobs next is checked no_leaf no_case no_binary no_source plain = absurd (cc)
+no_other_line (code.Leaf n) jobs next is checked no_leaf no_case no_binary no_source plain = no_leaf n refl
+no_other_line (code.Case t) jobs next is checked no_leaf no_case no_binary no_source plain = no_case t refl
+no_other_line (code.RestrictBinary r) jobs next is checked no_leaf no_case no_binary no_source plain = no_binary r refl
+no_other_line (code.RestrictSource r) jobs next is checked no_leaf no_case no_binary no_source plain = no_source r refl
+no_other_line (code.Split s) jobs next is checked no_leaf no_case no_binary no_source plain = absurd (cc)
+no_other_line (code.Call c) jobs next is checked no_leaf no_case no_binary no_source plain = absurd (cc)
+no_other_line (code.Relation t) jobs next is checked no_leaf no_case no_binary no_source plain = never_relation t.value.items next.expected next.others jobs next.are next.allowed
+no_other_line (code.Log n) jobs next is checked no_leaf no_case no_binary no_source plain = absurd (cc)
+no_other_line (code.Step k h) jobs next is checked no_leaf no_case no_binary no_source plain = absurd (cc)
+no_other_line code.End jobs next is checked no_leaf no_case no_binary no_source plain = absurd (cc)
 
 -- ---- the outcome of a line inside a part
 
@@ -563,7 +564,7 @@ module _ (codes : List Listed) (old now : Walk) (line : Line) (index : ℕ) (fun
   fails_inside broken answer is_so is step = subst (λ (x : Refusal NamedFault). GoesInside codes old now index line (Err x)) (sym is)
       (for_each (Err (named_fault index broken)) (record {
         step = λ fs parts f offset listed.
-            comes_named (part_of fs parts f (unfolded f)) offset (walk_jobs old function) (walk_jobs now function) line index broken is_so (step fs parts f offset listed);
+            comes_named (part_of parts f (unfolded f)) offset (walk_jobs old function) (walk_jobs now function) line index broken is_so (step fs parts f offset listed);
         kept = tt;
         follows = tt;
         parts = same;

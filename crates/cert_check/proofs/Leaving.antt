@@ -1,5 +1,5 @@
 -- What is expected of a part, as its bank grows.
-use Rattle.std.proofs.Common.{◌≡◌, ◌<◌, ℕ, Vec, Global, Option, Result, Ok, Err, List, [], ◌∷◌, ◌++◌, length, sym, subst}
+use Rattle.std.proofs.Common.{◌≡◌, ◌<◌, ℕ, Box, Global, Option, Result, Ok, Err, List, [], ◌∷◌, ◌++◌, length, sym, subst}
 use Rattle.std.specs.Prelude.{All, OnOk}
 use Rattle.std.proofs.lemmas.List.Elements.{All-append}
 use Rattle.term_core_spec.specs.declared.Variable.{Variable}
@@ -7,13 +7,15 @@ use Rattle.term_core_spec.specs.Term.{Term}
 use Rattle.term_bank.specs.Nodes.{Extends}
 use Rattle.sim_rules_terms.proofs.Later.{map_later}
 use Rattle.cert_check_frames.specs.declared.jobs.Branch.{Branch}
-use Rattle.cert_check_frames.specs.declared.jobs.Job.{Job}
-use Rattle.cert_check_frames.specs.declared.jobs.Job.TheVariants.{Prove}
+use Rattle.cert_check_frames.specs.Jobs.{AreBelow}
+use Rattle.cert_check_jobs.specs.declared.extra.Extra.{Extra}
+use Rattle.cert_check_jobs.specs.declared.jobs.Job.{Job}
+use Rattle.cert_check_jobs.specs.declared.jobs.Job.TheVariants.{Prove}
 use Rattle.cert_check_frames.specs.declared.listed.Listed.{Listed}
 use Rattle.cert_check_frames.specs.Listed.{terms_given}
-use Rattle.cert_check_frames.specs.Jobs.{logs_last, IsInside, AreInside, HasBranches}
+use Rattle.cert_check_jobs.specs.Jobs.{logs_last, IsInside, AreInside, HasBranches}
 use Rattle.cert_check.specs.Steps.{IsKeptBy}
-use Rattle.cert_check.proofs.Pushed.{inside_top, inside_later, logs_inside, below_later, branches_inside}
+use Rattle.cert_check.proofs.Pushed.{inside_top, inside_later, inside_pushed, logs_inside, below_later, branches_inside}
 
 -- ---- ids of a bank that grows
 
@@ -45,13 +47,25 @@ module _ (code : Listed) (old new : List Term) (binary source : Variable → Opt
       (subst (AreInside (length new)) (sym now)
       (All-append (IsInside (length new)) below (logs_last goals) (inside_later old new grows below split.0) (logs_inside (length new) goals within)))
 
-pub case_kept : (code : Listed) (old new : List Term) (binary source : Variable → Option ℕ) (before below after : List Job) (premises : Vec Branch Global) (test : ℕ)
-    → IsKeptBy code old binary source before → Extends old new → before ≡ below ++ Prove premises ∷ [] → HasBranches below after premises.items test → test < length new
+pub case_kept : (code : Listed) (old new : List Term) (binary source : Variable → Option ℕ) (before below after : List Job) (x : Box Extra Global) (test : ℕ)
+    → IsKeptBy code old binary source before → Extends old new → before ≡ below ++ Prove x ∷ [] → HasBranches below after x.value test → test < length new
     → IsKeptBy code new binary source after
-case_kept code old new binary source before below after premises test kept grows is has within =
-    let apart = inside_top (length old) below (Prove premises) (subst (AreInside (length old)) is kept.inside) in
+case_kept code old new binary source before below after x test kept grows is has within =
+    let apart = inside_top (length old) below (Prove x) (subst (AreInside (length old)) is kept.inside) in
     kept_on code old new binary source before after kept grows
-    (branches_inside (length new) below after premises.items test has (inside_later old new grows below apart.0) (below_later old new grows premises.items apart.1) within)
+    (branches_inside (length new) below after x.value test has (inside_later old new grows below apart.0) (below_later old new grows x.value.premises.items apart.1) within)
+
+-- logs, and the proof of a frame with the same premises
+pub bounded_kept : (code : Listed) (old new : List Term) (binary source : Variable → Option ℕ) (before below after : List Job) (x more : Box Extra Global) (goals : List ℕ)
+    → IsKeptBy code old binary source before → Extends old new → before ≡ below ++ Prove x ∷ [] → more.value.premises.items ≡ x.value.premises.items
+    → All (λ (g : ℕ). g < length new) goals → after ≡ (below ++ Prove more ∷ []) ++ logs_last goals → IsKeptBy code new binary source after
+bounded_kept code old new binary source before below after x more goals kept grows is same within now =
+    let apart = inside_top (length old) below (Prove x) (subst (AreInside (length old)) is kept.inside) in
+    let below_new = subst (AreBelow (length new)) (sym same) (below_later old new grows x.value.premises.items apart.1) in
+    kept_on code old new binary source before after kept grows
+    (subst (AreInside (length new)) (sym now)
+    (All-append (IsInside (length new)) (below ++ Prove more ∷ []) (logs_last goals)
+    (inside_pushed (length new) below (Prove more) (inside_later old new grows below apart.0) below_new) (logs_inside (length new) goals within)))
 
 -- what holds, where there is a value
 pub on_ok : {A E P : Type 0} (r : Result A E) → P → OnOk r P

@@ -3,6 +3,7 @@ pub mod Pushed
 pub mod Tops
 pub mod Leaving
 pub mod InPart
+pub mod Bounding
 pub mod Opened
 pub mod Picked
 pub mod States

@@ -24,8 +24,10 @@ use Rattle.cert_check_lines_spec.specs.LineRules.{Fault, Breaks, Above}
 use Rattle.cert_check_lines_spec.specs.Parts as rules
 use Rattle.cert_check_lines_spec.specs.Parts.{Functions, Member, State, Between}
 use Rattle.cert_check_lines_spec.specs.Walk.{Progress, Going, Stopped, before_all, Takes, goes_on, stays, TakesAll, no_line, one_line}
-use Rattle.cert_check_lines_spec.specs.Known.{is_known, AreMembersOf, IsProof, IsFault, IsLimit}
-use Rattle.cert_check_lines_spec.proofs.Members.{no_functions, member_of, are_members}
+use Rattle.cert_check_lines_spec.specs.Members.{members_of}
+use Rattle.cert_check_lines_spec.specs.Known.{is_known, IsProof, IsFault, IsLimit}
+use Rattle.cert_check_lines_spec.proofs.Members.{no_functions}
+use Rattle.cert_check.proofs.Picked.{members_listed}
 use Rattle.attempt.specs.declared.refusal.Refusal.{Refusal}
 use Rattle.attempt.specs.declared.refusal.Refusal.TheVariants as refusal
 use Rattle.cert_check.specs.declared.fault.Named.{Named}
@@ -37,7 +39,8 @@ use Rattle.cert_check.specs.declared.logs.OpenLine.{OpenLine}
 use Rattle.cert_check.specs.declared.checker.Checker.{Checker}
 use Rattle.cert_check_frames.specs.declared.listed.Listed.{Listed}
 use Rattle.cert_check_frames.specs.Listed.{AreListed}
-use Rattle.cert_check.specs.Walks.{AreMembers, between, Expecting, at_header, IsFaultName}
+use Rattle.cert_check.specs.Members.{AreMembers}
+use Rattle.cert_check.specs.Walks.{between, Expecting, at_header, IsFaultName}
 use Rattle.cert_check.specs.Logs.{no_log}
 use Rattle.cert_check.specs.Checkers.{IsReady, steps_left, Expects, IsHere, IsNextLine, StopsAt, IsBegunBefore, Goes, IsNew}
 use Rattle.cert_check.specs.Outcomes.{part_name, name_in, offset_of, IsFaultAt, IsChecked}
@@ -348,8 +351,8 @@ module _ (codes : List Listed) (cert : Cert) (c : Checker) (literals : List Lite
         let was = before.taken fs members are in
         (was.0, was.2, goes.leads fs members (offset_of cert) (are_here members are) was.0 was.1)
 
-    of_listed : (listed : List spec.Listed) → AreListed codes listed → (members : List Member) → AreMembersOf listed members → AreMembers codes members
-    of_listed listed are members same = subst (AreListed codes) (sym same) are
+    of_listed : (listed : List spec.Listed) → AreListed codes listed → AreMembers codes (members_of listed)
+    of_listed listed are = members_listed codes listed are
 
     broken_name : (function : Named) (rule : RuleWord) → placed.fault ≡ broken.Broken function rule → (fs : Functions) (members : List Member) → AreMembers codes members
         → (name : List ℕ) × (name_in codes cert.lines.items function ≡ Some name)
@@ -363,18 +366,19 @@ module _ (codes : List Listed) (cert : Cert) (c : Checker) (literals : List Lite
     broken_rule : (function : Named) (rule : RuleWord) → placed.fault ≡ broken.Broken function rule → (listed : List spec.Listed) → AreListed codes listed
         → IsFaultAt codes cert listed placed.place (broken.Broken function rule)
     broken_rule function rule is listed are =
-        let some = broken_name function rule is no_functions (map member_of listed) (of_listed listed are (map member_of listed) (are_members listed)) in (
+        let some = broken_name function rule is no_functions (members_of listed) (of_listed listed are) in (
           some.0,
           some.1,
-          λ fs members same.
-              let x = broken_name function rule is fs members (of_listed listed are members same) in
+          λ fs.
+              let x = broken_name function rule is fs (members_of listed) (of_listed listed are) in
               let one_name : x.0 ≡ some.0 = same_Some x.0 some.0 (sym x.1 ∙ some.1) in
-              subst (λ (name : List ℕ). All_taken fs members before_all (certificate_of cert) (Stopped (offset_of cert placed.place) name (Breaks rule))) one_name x.2,
+              subst (λ (name : List ℕ). All_taken fs (members_of listed) before_all (certificate_of cert) (Stopped (offset_of cert placed.place) name (Breaks rule))) one_name x.2,
         )
 
     above_maximum : (q : Quantity) → placed.fault ≡ broken.Above q → (listed : List spec.Listed) → AreListed codes listed → IsFaultAt codes cert listed placed.place (broken.Above q)
-    above_maximum q is listed are = λ fs members same.
-        let x = stops_there fs members (of_listed listed are members same) in
+    above_maximum q is listed are = λ fs.
+        let members = members_of listed in
+        let x = stops_there fs members (of_listed listed are) in
         let stop = subst (StopsAt fs members (offset_of cert) c x.0 one i placed.place) is x.2 in
         (stop.0, stopped fs members x.0 (offset_of cert placed.place) stop.0 (Above q) x.1 stop.1)
 
@@ -397,7 +401,7 @@ module _ (codes : List Listed) (cert : Cert) (c : Checker) (literals : List Lite
 -- all lines were given
 pub all_given : (codes : List Listed) (cert : Cert) (c : Checker) (literals : List Literal) (hints : List ℕ) (i : ℕ) → length cert.lines.items ≤ i → IsGiven codes cert c literals hints i
     → (listed : List spec.Listed) → AreListed codes listed → IsProof listed (certificate_of cert)
-all_given codes cert c literals hints i past given listed are = λ fs members same. by fs members (subst (AreListed codes) (sym same) are) given.there
+all_given codes cert c literals hints i past given listed are = λ fs. by fs (members_of listed) (members_listed codes listed are) given.there
   where
     none : drop i (certificate_of cert) ≡ []
     none = all_lines cert literals hints i past given.left

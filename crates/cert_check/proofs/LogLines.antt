@@ -28,10 +28,10 @@ use Rattle.cert_check_lines_spec.specs.Parts.{Functions, Member, State, Inside, 
 use Rattle.cert_check_lines_spec.specs.Walk.{Going, Stopped, Takes}
 use Rattle.cert_check_lines_spec.specs.Walk as walks
 use Rattle.cert_check_lines_spec.specs.Known.{is_known}
-use Rattle.cert_check_frames.specs.declared.jobs.Job.TheVariants.{Close}
+use Rattle.cert_check_jobs.specs.declared.jobs.Job.TheVariants.{Close}
 use Rattle.cert_check_frames.specs.declared.listed.Listed.{Listed}
-use Rattle.cert_check_frames.specs.Listed.{IsListed, frame_at}
-use Rattle.cert_check_frames.specs.Jobs.{AreInside}
+use Rattle.cert_check_frames.specs.Listed.{frame_at}
+use Rattle.cert_check_jobs.specs.Jobs.{AreInside}
 use Rattle.cert_check_frames.specs.Parts.{IsNamed}
 use Rattle.cert_check.specs.declared.fault.NamedFault.{NamedFault}
 use Rattle.cert_check.specs.declared.fault.NamedFault.TheVariants.{Broken, Above}
@@ -39,7 +39,8 @@ use Rattle.cert_check.specs.declared.fault.Named.TheVariants as named
 use Rattle.cert_check.specs.declared.logs.OpenLine.{OpenLine}
 use Rattle.cert_check.specs.declared.walk.Walk.{Walk}
 use Rattle.cert_check.specs.Jobs.{jobs_of}
-use Rattle.cert_check.specs.Walks.{AreMembers, IsPart, inside, walk_jobs, Expecting, in_part, IsWalk}
+use Rattle.cert_check.specs.Members.{AreMembers, IsMemberOf}
+use Rattle.cert_check.specs.Walks.{IsPart, inside, walk_jobs, Expecting, in_part, IsWalk}
 use Rattle.cert_check.specs.Logs.{begin_fault, BeginsFirst, IsOpened, IsAt, no_log, in_log, OpensLog, LogComes, GoesLog}
 use Rattle.cert_check.proofs.Pushed.{jobs_top, same_jobs, inside_top}
 use Rattle.cert_check.proofs.Tops.{log_below}
@@ -67,8 +68,8 @@ module _ (codes : List Listed) (old now : Walk) (count place part : ℕ) (before
         jobs_top old.bank (frame_at function) old.jobs.items now.jobs.items (Close first.goal) first.first
         ∙ ap (λ (jobs : List spec.Job). spec.Close goal ∷ jobs) (sym (same_jobs old.bank now.bank first.extends (frame_at function) now.jobs.items within))
 
-    begins_for : (f : Member) → IsListed function f.listed → Begins f.listed.runs goal count result
-    begins_for f is = subst (λ (runs : List Run). Begins runs goal count result) (sym is.runs_are) first.begins
+    begins_for : (f : Member) → IsMemberOf function f → Begins f.listed.runs goal count result
+    begins_for f is = subst (λ (runs : List Run). Begins runs goal count result) (sym is.listed.runs_are) first.begins
 
     -- ---- a line that passes
 
@@ -83,20 +84,20 @@ module _ (codes : List Listed) (old now : Walk) (count place part : ℕ) (before
     }
 
     passes_there : (fs : Functions) (members : List Member) (offset : ℕ) (s : State) (x : IsLast codes members old function s) (more : List spec.Job)
-        → Passes (part_of fs x.parts x.f (unfolded x.f)) offset (spec.Close goal ∷ below) (Log count) more
+        → Passes (part_of x.parts x.f (unfolded x.f)) offset (spec.Close goal ∷ below) (Log count) more
         → Takes fs members is_known (Going offset s) (Log count) (Going (offset + length (line_text (Log count))) (Inside x.parts x.f (unfolded x.f) more))
     passes_there fs members offset s x more passes =
         walks.goes_on offset s (Inside x.parts x.f (unfolded x.f) more) (Log count) refl
         (accepts_there fs members x.parts x.f (walk_jobs old function) offset (Log count) more s x.has
-        (subst (λ (jobs : List spec.Job). Passes (part_of fs x.parts x.f (unfolded x.f)) offset jobs (Log count) more) (sym at_goal) passes))
+        (subst (λ (jobs : List spec.Job). Passes (part_of x.parts x.f (unfolded x.f)) offset jobs (Log count) more) (sym at_goal) passes))
 
     fails_there : (fs : Functions) (members : List Member) (offset : ℕ) (s : State) (x : IsLast codes members old function s) (wrong : lines.Fault)
-        → Fails (part_of fs x.parts x.f (unfolded x.f)) offset (spec.Close goal ∷ below) (Log count) offset wrong
+        → Fails (part_of x.parts x.f (unfolded x.f)) offset (spec.Close goal ∷ below) (Log count) offset wrong
         → Takes fs members is_known (Going offset s) (Log count) (Stopped offset x.f.listed.name wrong)
     fails_there fs members offset s x wrong fails =
         walks.stops offset s (Log count) offset x.f.listed.name wrong refl
         (rejects_there fs members x.parts x.f (walk_jobs old function) offset (Log count) offset wrong s x.has
-        (subst (λ (jobs : List spec.Job). Fails (part_of fs x.parts x.f (unfolded x.f)) offset jobs (Log count) offset wrong) (sym at_goal) fails))
+        (subst (λ (jobs : List spec.Job). Fails (part_of x.parts x.f (unfolded x.f)) offset jobs (Log count) offset wrong) (sym at_goal) fails))
 
   abbrev Last : List Member → State → Type 0
   Last members s = IsLast codes members old function s
@@ -108,7 +109,7 @@ module _ (codes : List Listed) (old now : Walk) (count place part : ℕ) (before
     opened_at : (fs : Functions) (members : List Member) (offsets : ℕ → ℕ) (s : State) (x : Last members s) (current : OpenLine) → count ≡ suc current.left → current.place ≡ place → current.closer ≡ closer
         → LogComes codes fs members offsets now s count place (Ok (Some current))
     opened_at fs members offsets s x current counted placed is =
-        let p = part_of fs x.parts x.f (unfolded x.f) in
+        let p = part_of x.parts x.f (unfolded x.f) in
         let begins = begins_for (Ok closer) first x.f x.is in
         let o = takes_steps (normal p.runs (goal (Ok closer) first)) count current.left (open_of closer) counted begins.1 in
         let more = InLog (offsets place) o.steps.variables o.steps.clauses current.left ∷ left_below in
@@ -127,7 +128,7 @@ module _ (codes : List Listed) (old now : Walk) (count place part : ℕ) (before
     closed_at : (fs : Functions) (members : List Member) (offsets : ℕ → ℕ) (s : State) (x : Last members s) → count ≡ 0 → is_closed (open_of closer) ≡ true
         → LogComes codes fs members offsets now s count place (Ok None)
     closed_at fs members offsets s x none closed =
-        let p = part_of fs x.parts x.f (unfolded x.f) in
+        let p = part_of x.parts x.f (unfolded x.f) in
         let begins = begins_for (Ok closer) first x.f x.is in
         let next = Inside x.parts x.f (unfolded x.f) left_below in (
           next,
@@ -165,10 +166,10 @@ module _ (codes : List Listed) (old now : Walk) (count place part : ℕ) (before
     open_at : (fs : Functions) (members : List Member) (offsets : ℕ → ℕ) (s : State) (x : Last members s) → count ≡ 0 → is_closed (open_of closer) ≡ false
         → LogComes codes fs members offsets now s count place (Err (Fault (Broken (named.Listed part) fault.Unclosed)))
     open_at fs members offsets s x none current =
-        let p = part_of fs x.parts x.f (unfolded x.f) in
+        let p = part_of x.parts x.f (unfolded x.f) in
         let begins = begins_for (Ok closer) first x.f x.is in (
           x.f.listed.name,
-          record { function = function; there = there; named = sym x.is.named },
+          record { function = function; there = there; named = sym x.is.listed.named },
           fails_there (Ok closer) first fs members (offsets place) s x (lines.Breaks fault.Unclosed)
               (unclosed p (offsets place) (goal (Ok closer) first) left_below count (open_of closer) none current begins.0 begins.1),
         )
@@ -205,13 +206,13 @@ module _ (codes : List Listed) (old now : Walk) (count place part : ℕ) (before
       let result = Err (Fault (close.Large above.Terms least)) in (
         x.f.listed.name,
         fails_there result first fs members (offsets place) s x (lines.Above quantity.Terms)
-            (many_terms (part_of fs x.parts x.f (unfolded x.f)) (offsets place) (goal result first) (below result first) count least (begins_for result first x.f x.is)),
+            (many_terms (part_of x.parts x.f (unfolded x.f)) (offsets place) (goal result first) (below result first) count least (begins_for result first x.f x.is)),
       )
   begin_fails fs members offsets s x (Fault (close.Large above.Variables least)) first =
       let result = Err (Fault (close.Large above.Variables least)) in (
         x.f.listed.name,
         fails_there result first fs members (offsets place) s x (lines.Above quantity.Variables)
-            (many_variables (part_of fs x.parts x.f (unfolded x.f)) (offsets place) (goal result first) (below result first) count least (begins_for result first x.f x.is)),
+            (many_variables (part_of x.parts x.f (unfolded x.f)) (offsets place) (goal result first) (below result first) count least (begins_for result first x.f x.is)),
       )
   begin_fails fs members offsets s x (Fault (close.Step number)) first = absurd first.begins
   begin_fails fs members offsets s x (Fault close.Unclosed) first = absurd first.begins

@@ -1,6 +1,6 @@
 -- Listed functions of the program and members of the definitions, by their indices.
 use Rattle.std.proofs.Common.{◌≡◌, ◌≢◌, ◌∙◌, inl, inr, ℕ, zero, suc, ◌+◌, ◌<◌, List, [], ◌∷◌, ◌++◌, length, map, get_or, take, drop, Some, None, refl, sym, ap, subst, arith, length-append, take-append-drop}
-use Rattle.std.specs.Prelude.{slice_get, option_map, All}
+use Rattle.std.specs.Prelude.{slice_get, nat_eq, option_map, All}
 use Rattle.std.proofs.lemmas.List.{drop_more, length-map, length-take-le, get_or-take, get_or_at}
 use Rattle.std.proofs.lemmas.List.Elements.{All-map}
 use Rattle.std.proofs.lemmas.Option.{slice_get-get_or, slice_get-map, slice_get_within, slice_get_cases, get_or_from_slice_get, same_Some}
@@ -8,9 +8,13 @@ use Rattle.cert_check_spec.specs.Verdict as spec
 use Rattle.cert_check_spec.specs.Verdict.{IsMissing}
 use Rattle.cert_check_lines_spec.specs.Parts.{Member, IsFree, LacksPart}
 use Rattle.cert_check_frames.specs.declared.listed.Listed.{Listed}
-use Rattle.cert_check_frames.specs.Listed.{IsListed}
+use Rattle.std.specs.Map.{lookup}
+use Rattle.proof_tree_spec.specs.declared.Place.{Place}
+use Rattle.cert_check_lines_spec.specs.Members.{member_of, members_of, same_place}
+use Rattle.cert_check_frames.specs.Listed.{AreListed, IsListed}
 use Rattle.cert_check_frames.specs.Parts.{HasPart, IsFreeAt, HaveParts, IsMissingAt}
-use Rattle.cert_check.specs.Walks.{ArePicked, no_pick, one_pick, AreMembers}
+use Rattle.cert_check.specs.Members.{AreMembers, IsMemberOf}
+use Rattle.cert_check.specs.Walks.{ArePicked, no_pick, one_pick}
 
 -- ---- the other list
 
@@ -20,6 +24,21 @@ at_index xs k within = elim (slice_get_cases xs k).1 [
   | inr past ↦ absurd (omega (arith, within, past.0))
 ]
 
+-- the members of listed functions
+pub members_listed : (codes : List Listed) (listed : List spec.Listed) → AreListed codes listed → AreMembers codes (members_of listed)
+members_listed codes listed are = record {
+  count = are.count ∙ sym (length-map listed member_of);
+  each = λ k code f there at.
+      let found = at_index listed k (omega (arith, are.count, slice_get_within codes k code there)) in
+      let is = are.each k code found.0 there found.1 in
+      let same : member_of found.0 ≡ f = same_Some (member_of found.0) f (sym (slice_get-map member_of listed k ∙ ap (option_map member_of) found.1) ∙ at) in
+      subst (IsMemberOf code) same (record {
+        listed = is;
+        first = λ address. ap (λ (l : List (ℕ × ℕ)). lookup (nat_eq address) l) (sym is.firsts_are);
+        node = λ place. ap (λ (l : List (Place × ℕ)). lookup (same_place place) l) (sym is.places_are);
+      });
+}
+
 abbrev pub listed_of : Member → spec.Listed
 listed_of f = f.listed
 
@@ -28,19 +47,19 @@ mapped members k f there = slice_get-map listed_of members k ∙ ap (option_map 
 
 module _ (codes : List Listed) (members : List Member) (are : AreMembers codes members) where
   counted : length codes ≡ length members
-  counted = are.count ∙ length-map members listed_of
+  counted = are.count
 
-  pub is_member : (k : ℕ) (code : Listed) (f : Member) → slice_get codes k ≡ Some code → slice_get members k ≡ Some f → IsListed code f.listed
-  is_member k code f there at = are.each k code f.listed there (mapped members k f at)
+  pub is_member : (k : ℕ) (code : Listed) (f : Member) → slice_get codes k ≡ Some code → slice_get members k ≡ Some f → IsMemberOf code f
+  is_member k code f there at = are.each k code f there at
 
   -- the member of an index
-  pub member_there : (k : ℕ) (code : Listed) → slice_get codes k ≡ Some code → (f : Member) × (slice_get members k ≡ Some f) × IsListed code f.listed
+  pub member_there : (k : ℕ) (code : Listed) → slice_get codes k ≡ Some code → (f : Member) × (slice_get members k ≡ Some f) × IsMemberOf code f
   member_there k code there =
       let found = at_index members k (omega (arith, counted, slice_get_within codes k code there)) in
       (found.0, found.1, is_member k code found.0 there found.1)
 
   -- the program's
-  pub code_there : (k : ℕ) (f : Member) → slice_get members k ≡ Some f → (code : Listed) × (slice_get codes k ≡ Some code) × IsListed code f.listed
+  pub code_there : (k : ℕ) (f : Member) → slice_get members k ≡ Some f → (code : Listed) × (slice_get codes k ≡ Some code) × IsMemberOf code f
   code_there k f there =
       let found = at_index codes k (omega (arith, counted, slice_get_within members k f there)) in
       (found.0, found.1, is_member k found.0 f found.1 there)
@@ -75,7 +94,7 @@ module _ (codes : List Listed) (members : List Member) (are : AreMembers codes m
   begun_named name has =
       let found = picked_there members parts functions picked has.place has.part has.there in
       let is = is_member codes members are has.part has.named.function found.0 has.named.there found.2 in
-      (has.place, found.0, found.1, is.named ∙ has.named.named)
+      (has.place, found.0, found.1, is.listed.named ∙ has.named.named)
 
   pub none_begun : (name : List ℕ) → (HasPart codes parts name → ⊥) → All (λ (other : Member). other.listed.name ≢ name) functions
   none_begun name none = λ place d within same.
@@ -86,7 +105,7 @@ module _ (codes : List Listed) (members : List Member) (are : AreMembers codes m
         place = place;
         part = at.0;
         there = at.1;
-        named = record { function = code.0; there = code.1; named = sym code.2.named ∙ same };
+        named = record { function = code.0; there = code.1; named = sym code.2.listed.named ∙ same };
       })
 
   pub begun_not : (name : List ℕ) → HasPart codes parts name → All (λ (other : Member). other.listed.name ≢ name) functions → ⊥
@@ -108,12 +127,12 @@ module _ (codes : List Listed) (members : List Member) (are : AreMembers codes m
 
   -- ---- the beginning of a part
 
-  pub is_free : (k : ℕ) (code : Listed) (f : Member) → slice_get codes k ≡ Some code → slice_get members k ≡ Some f → IsListed code f.listed → (HasPart codes parts code.name.now → ⊥)
+  pub is_free : (k : ℕ) (code : Listed) (f : Member) → slice_get codes k ≡ Some code → slice_get members k ≡ Some f → IsMemberOf code f → (HasPart codes parts code.name.now → ⊥)
       → IsFree members functions f.listed.name f
   is_free k code f there at is none = record {
     is_listed = (k, slice_get_within members k f at, get_or_from_slice_get members k f f at);
     named = refl;
-    free = subst (λ (name : List ℕ). All (λ (other : Member). other.listed.name ≢ name) functions) (sym is.named) (none_begun code.name.now none);
+    free = subst (λ (name : List ℕ). All (λ (other : Member). other.listed.name ≢ name) functions) (sym is.listed.named) (none_begun code.name.now none);
   }
 
   pub never_free : (name : List ℕ) → IsFreeAt codes parts name None → (f : Member) → IsFree members functions name f → ⊥
@@ -121,7 +140,7 @@ module _ (codes : List Listed) (members : List Member) (are : AreMembers codes m
       let k = free.is_listed.0 in
       let at : slice_get members k ≡ Some f = slice_get-get_or members k f free.is_listed.1 ∙ ap Some free.is_listed.2 in
       let code = code_there codes members are k f at in
-      none k (record { function = code.0; there = code.1; named = sym code.2.named ∙ free.named }) (λ has. begun_not name has free.free)
+      none k (record { function = code.0; there = code.1; named = sym code.2.listed.named ∙ free.named }) (λ has. begun_not name has free.free)
 
   -- ---- the end
 
@@ -135,10 +154,14 @@ module _ (codes : List Listed) (members : List Member) (are : AreMembers codes m
 
   listed_code : (k : ℕ) (f : spec.Listed) → slice_get listed k ≡ Some f → (code : Listed) × (slice_get codes k ≡ Some code) × IsListed code f
   listed_code k f there =
-      let found = at_index codes k (omega (arith, are.count, slice_get_within listed k f there)) in
-      (found.0, found.1, are.each k found.0 f found.1 there)
+      let long = length-map members listed_of in
+      let within = slice_get_within listed k f there in
+      let found = at_index codes k (omega (arith, are.count, long, within)) in
+      let member = at_index members k (omega (arith, long, within)) in
+      let same : member.0.listed ≡ f = same_Some member.0.listed f (sym (mapped members k member.0 member.1) ∙ there) in
+      (found.0, found.1, subst (IsListed found.0) same (are.each k found.0 member.0 found.1 member.1).listed)
 
-  pub is_missing : (k : ℕ) (code : Listed) (f : Member) → slice_get codes k ≡ Some code → slice_get members k ≡ Some f → IsListed code f.listed → (HasPart codes parts code.name.now → ⊥)
+  pub is_missing : (k : ℕ) (code : Listed) (f : Member) → slice_get codes k ≡ Some code → slice_get members k ≡ Some f → IsMemberOf code f → (HasPart codes parts code.name.now → ⊥)
       → HaveParts codes parts k → LacksPart members functions f.listed
   is_missing k code f there at is none have =
       let here = mapped members k f at in
@@ -146,7 +169,7 @@ module _ (codes : List Listed) (members : List Member) (are : AreMembers codes m
         before = take k listed;
         after = drop (k + 1) listed;
         cut = cut_at listed k f.listed here;
-        none = subst (λ (name : List ℕ). All (λ (other : spec.Listed). other.name ≢ name) (map listed_of functions)) (sym is.named) (none_listed code.name.now none);
+        none = subst (λ (name : List ℕ). All (λ (other : spec.Listed). other.name ≢ name) (map listed_of functions)) (sym is.listed.named) (none_listed code.name.now none);
         others = λ j d within absent.
             let fits : k < length listed = slice_get_within listed k f.listed here in
             let less : j < k = omega (arith, within, fits, length-take-le k listed (omega (arith, fits))) in

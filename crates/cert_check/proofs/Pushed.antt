@@ -1,5 +1,5 @@
 -- Jobs, as the bank grows and as they are put on top.
-use Rattle.std.proofs.Common.{◌≡◌, ◌∙◌, ℕ, ◌<◌, ◌≤◌, true, false, List, [], ◌∷◌, ◌++◌, length, map, refl, sym, ap, subst, arith, append_assoc, append-nil}
+use Rattle.std.proofs.Common.{◌≡◌, ◌∙◌, ℕ, ◌<◌, ◌≤◌, true, false, List, [], ◌∷◌, ◌++◌, length, map, refl, sym, ap, ap₂, subst, arith, append_assoc, append-nil}
 use Rattle.std.specs.Prelude.{All}
 use Rattle.std.proofs.lemmas.List.Elements.{All-nil, All-cons, All-append, All-head, All-tail, All-weaker}
 use Rattle.term_core_spec.specs.Term.{Term, not_term}
@@ -8,11 +8,15 @@ use Rattle.path_cond.proofs.Banks as banks
 use Rattle.proof_tree_spec.specs.Frames.{Frame}
 use Rattle.cert_check_lines_spec.specs.Jobs as spec
 use Rattle.cert_check_lines_spec.specs.Jobs.{AtEntry}
-use Rattle.cert_check_lines_spec.specs.LineRules.{with_test}
+use Rattle.cert_check_lines_spec.specs.LineRules.{binary_bounded, source_bounded, with_test}
 use Rattle.cert_check_frames.specs.declared.jobs.Branch.{Branch}
-use Rattle.cert_check_frames.specs.declared.jobs.Job.{Job}
-use Rattle.cert_check_frames.specs.declared.jobs.Job.TheVariants.{Prove, Close}
-use Rattle.cert_check_frames.specs.Jobs.{premise_of, premise_at, premises_at, frame_with, logs_last, AreBelow, IsInside, AreInside, HasBranches}
+use Rattle.cert_check_jobs.specs.declared.jobs.Job.{Job}
+use Rattle.cert_check_jobs.specs.declared.jobs.Job.TheVariants.{Prove, Close}
+use Rattle.cert_check_frames.specs.Jobs.{premise_of, premise_at, premises_at, AreBelow}
+use Rattle.cert_check_jobs.specs.declared.extra.Extra.{Extra}
+use Rattle.cert_check_jobs.specs.Extras.{Added, added_at, frame_added, HasBinaryBound, HasNothing, HasPremise, HasSourceBound, IsBelow}
+use Rattle.cert_check_jobs.specs.Jobs.{logs_last, IsInside, AreInside, HasBranches}
+use Rattle.graph_core_spec.specs.declared.Mark.{Mark}
 use Rattle.cert_check.specs.Jobs.{job_of, stacked, jobs_of}
 
 -- ---- the top
@@ -40,24 +44,47 @@ module _ (trees : List Term) (f : Frame) where
       ∙ stacked_top [] (below ++ logs_last goals) (Close g)
       ∙ ap (λ (jobs : List spec.Job). spec.Close (tree_at trees g) ∷ jobs) (jobs_logs below goals)
 
--- ---- premises
+-- ---- frames with more
 
--- one premise more is a test more
+-- one premise more is a test more, and one bound more is that bound
 module _ (trees : List Term) (f : Frame) where
   one_premise : (premises : List Branch) (b : Branch) → premises_at trees (premises ++ b ∷ []) ≡ premises_at trees premises ++ premise_at trees b ∷ []
   one_premise [] b = refl
   one_premise (c ∷ premises) b = ap (λ (terms : List Term). premise_at trees c ∷ terms) (one_premise premises b)
 
-  pub with_branch : (premises all : List Branch) (b : Branch) → all ≡ premises ++ b ∷ []
-      → frame_with f (premises_at trees all) ≡ with_test (frame_with f (premises_at trees premises)) (premise_at trees b)
-  with_branch premises all b is =
-      ap (λ (list : List Term). frame_with f list) (ap (premises_at trees) is ∙ one_premise premises b)
-      ∙ ap (λ (list : List Term). record f { start = record f.start { premises = list } })
-      (sym (append_assoc f.start.premises (premises_at trees premises) (premise_at trees b ∷ [])))
+  abbrev by : List Term → (binary source : List Mark) → Frame
+  by premises binary source = record f { start = record f.start { premises = premises; binary_bounds = binary; source_bounds = source } }
 
-  -- no further premise
-  pub with_none : frame_with f [] ≡ f
-  with_none = ap (λ (list : List Term). record f { start = record f.start { premises = list } }) (append-nil f.start.premises)
+  pub with_branch : (x : Extra) (b : Branch) (more : Extra) → HasPremise x b more → frame_added f (added_at trees more) ≡ with_test (frame_added f (added_at trees x)) (premise_at trees b)
+  with_branch x b more has =
+      ap (λ (premises : List Term). by (f.start.premises ++ premises) (f.start.binary_bounds ++ more.binary_bounds.items) (f.start.source_bounds ++ more.source_bounds.items))
+      (ap (premises_at trees) has.premises ∙ one_premise x.premises.items b)
+      ∙ ap₂ (λ (binary source : List Mark). by (f.start.premises ++ (premises_at trees x.premises.items ++ premise_at trees b ∷ [])) (f.start.binary_bounds ++ binary) (f.start.source_bounds ++ source))
+      has.binary has.source
+      ∙ ap (λ (premises : List Term). by premises (f.start.binary_bounds ++ x.binary_bounds.items) (f.start.source_bounds ++ x.source_bounds.items))
+      (sym (append_assoc f.start.premises (premises_at trees x.premises.items) (premise_at trees b ∷ [])))
+
+  pub with_binary : (x : Extra) (bound : Mark) (more : Extra) → HasBinaryBound x bound more → frame_added f (added_at trees more) ≡ binary_bounded (frame_added f (added_at trees x)) bound
+  with_binary x bound more has =
+      ap (λ (premises : List Branch). by (f.start.premises ++ premises_at trees premises) (f.start.binary_bounds ++ more.binary_bounds.items) (f.start.source_bounds ++ more.source_bounds.items)) has.premises
+      ∙ ap₂ (λ (binary source : List Mark). by (f.start.premises ++ premises_at trees x.premises.items) (f.start.binary_bounds ++ binary) (f.start.source_bounds ++ source)) has.binary has.source
+      ∙ ap (λ (binary : List Mark). by (f.start.premises ++ premises_at trees x.premises.items) binary (f.start.source_bounds ++ x.source_bounds.items))
+      (sym (append_assoc f.start.binary_bounds x.binary_bounds.items (bound ∷ [])))
+
+  pub with_source : (x : Extra) (bound : Mark) (more : Extra) → HasSourceBound x bound more → frame_added f (added_at trees more) ≡ source_bounded (frame_added f (added_at trees x)) bound
+  with_source x bound more has =
+      ap (λ (premises : List Branch). by (f.start.premises ++ premises_at trees premises) (f.start.binary_bounds ++ more.binary_bounds.items) (f.start.source_bounds ++ more.source_bounds.items)) has.premises
+      ∙ ap₂ (λ (binary source : List Mark). by (f.start.premises ++ premises_at trees x.premises.items) (f.start.binary_bounds ++ binary) (f.start.source_bounds ++ source)) has.binary has.source
+      ∙ ap (λ (source : List Mark). by (f.start.premises ++ premises_at trees x.premises.items) (f.start.binary_bounds ++ x.binary_bounds.items) source)
+      (sym (append_assoc f.start.source_bounds x.source_bounds.items (bound ∷ [])))
+
+  -- nothing more
+  pub with_none : (x : Extra) → HasNothing x → frame_added f (added_at trees x) ≡ f
+  with_none x has =
+      ap (λ (premises : List Branch). by (f.start.premises ++ premises_at trees premises) (f.start.binary_bounds ++ x.binary_bounds.items) (f.start.source_bounds ++ x.source_bounds.items)) has.premises
+      ∙ ap₂ (λ (binary source : List Mark). by (f.start.premises ++ []) (f.start.binary_bounds ++ binary) (f.start.source_bounds ++ source)) has.binary has.source
+      ∙ ap (λ (premises : List Term). by premises (f.start.binary_bounds ++ []) (f.start.source_bounds ++ [])) (append-nil f.start.premises)
+      ∙ ap₂ (λ (binary source : List Mark). by f.start.premises binary source) (append-nil f.start.binary_bounds) (append-nil f.start.source_bounds)
 
 -- ---- a bank that grows
 
@@ -75,8 +102,12 @@ module _ (before now : List Term) (extends : Extends before now) where
       ap (λ (t : Term). t ∷ premises_at now premises) first
       ∙ ap (λ (terms : List Term). premise_at before b ∷ terms) (same_premises premises (All-tail (λ (c : Branch). c.test < length before) b premises below))
 
+  pub same_added : (x : Extra) → IsBelow (length before) x → added_at now x ≡ added_at before x
+  same_added x below =
+      ap (λ (premises : List Term). record { premises = premises; binary = x.binary_bounds.items; source = x.source_bounds.items }) (same_premises x.premises.items below)
+
   same_job : (f : Frame) (job : Job) → IsInside (length before) job → job_of now f job ≡ job_of before f job
-  same_job f (Prove premises) inside = ap (λ (terms : List Term). spec.Prove AtEntry (frame_with f terms)) (same_premises premises.items inside)
+  same_job f (Prove x) inside = ap (λ (added : Added). spec.Prove AtEntry (frame_added f added)) (same_added x.value inside)
   same_job f (Close goal) inside = ap spec.Close (same_tree goal inside)
 
   same_stacked : (f : Frame) (below : List spec.Job) (jobs : List Job) → AreInside (length before) jobs → stacked now f below jobs ≡ stacked before f below jobs
@@ -94,7 +125,7 @@ module _ (before now : List Term) (extends : Extends before now) where
       All-weaker (λ (b : Branch). b.test < length before) (λ (b : Branch). b.test < length now) (λ b h. omega (arith, longer, h)) premises below
 
   inside_more : (job : Job) → IsInside (length before) job → IsInside (length now) job
-  inside_more (Prove premises) inside = below_later premises.items inside
+  inside_more (Prove x) inside = below_later x.value.premises.items inside
   inside_more (Close goal) inside = omega (arith, longer, inside)
 
   pub inside_later : (jobs : List Job) → AreInside (length before) jobs → AreInside (length now) jobs
@@ -111,8 +142,8 @@ inside_top n (j ∷ jobs) job inside =
 pub no_inside : (n : ℕ) → AreInside n []
 no_inside n = All-nil (IsInside n)
 
-pub no_below : (n : ℕ) (premises : List Branch) → premises ≡ [] → AreBelow n premises
-no_below n premises none = subst (AreBelow n) (sym none) (All-nil (λ (b : Branch). b.test < n))
+pub no_below : (n : ℕ) (x : Extra) → HasNothing x → IsBelow n x
+no_below n x has = subst (AreBelow n) (sym has.premises) (All-nil (λ (b : Branch). b.test < n))
 
 pub inside_pushed : (n : ℕ) (jobs : List Job) (job : Job) → AreInside n jobs → IsInside n job → AreInside n (jobs ++ job ∷ [])
 inside_pushed n jobs job inside within = All-append (IsInside n) jobs (job ∷ []) inside (All-cons (IsInside n) job [] within (All-nil (IsInside n)))
@@ -122,24 +153,23 @@ one_below n premises b below within =
     All-append (λ (c : Branch). c.test < n) premises (b ∷ []) below
     (All-cons (λ (c : Branch). c.test < n) b [] within (All-nil (λ (c : Branch). c.test < n)))
 
-pub branches_inside : (n : ℕ) (old new : List Job) (premises : List Branch) (test : ℕ) → HasBranches old new premises test → AreInside n old → AreBelow n premises → test < n
-    → AreInside n new
-branches_inside n old new premises test has inside below within =
-    let first = subst (AreBelow n) (sym has.fails_are) (one_below n premises (record { test = test; holds = false }) below within) in
-    let second = subst (AreBelow n) (sym has.holds_are) (one_below n premises (record { test = test; holds = true }) below within) in
+pub branches_inside : (n : ℕ) (old new : List Job) (x : Extra) (test : ℕ) → HasBranches old new x test → AreInside n old → IsBelow n x → test < n → AreInside n new
+branches_inside n old new x test has inside below within =
+    let first = subst (AreBelow n) (sym has.fails_are.premises) (one_below n x.premises.items (record { test = test; holds = false }) below within) in
+    let second = subst (AreBelow n) (sym has.holds_are.premises) (one_below n x.premises.items (record { test = test; holds = true }) below within) in
     subst (AreInside n) (sym has.now)
     (inside_pushed n (old ++ Prove has.fails ∷ []) (Prove has.holds) (inside_pushed n old (Prove has.fails) inside first) second)
 
 -- both proofs after a Case are of the frame with the test, and with its negation
-pub branches_jobs : (trees : List Term) (f : Frame) (old new : List Job) (premises : List Branch) (test : ℕ) → HasBranches old new premises test
-    → jobs_of trees f new ≡ spec.Prove AtEntry (with_test (frame_with f (premises_at trees premises)) (tree_at trees test))
-    ∷ spec.Prove AtEntry (with_test (frame_with f (premises_at trees premises)) (not_term (tree_at trees test))) ∷ jobs_of trees f old
-branches_jobs trees f old new premises test has =
+pub branches_jobs : (trees : List Term) (f : Frame) (old new : List Job) (x : Extra) (test : ℕ) → HasBranches old new x test
+    → jobs_of trees f new ≡ spec.Prove AtEntry (with_test (frame_added f (added_at trees x)) (tree_at trees test))
+    ∷ spec.Prove AtEntry (with_test (frame_added f (added_at trees x)) (not_term (tree_at trees test))) ∷ jobs_of trees f old
+branches_jobs trees f old new x test has =
     jobs_top trees f new (old ++ Prove has.fails ∷ []) (Prove has.holds) has.now
-    ∙ ap (λ (g : Frame). spec.Prove AtEntry g ∷ jobs_of trees f (old ++ Prove has.fails ∷ [])) (with_branch trees f premises has.holds.items (record { test = test; holds = true }) has.holds_are)
-    ∙ ap (λ (jobs : List spec.Job). spec.Prove AtEntry (with_test (frame_with f (premises_at trees premises)) (tree_at trees test)) ∷ jobs)
+    ∙ ap (λ (g : Frame). spec.Prove AtEntry g ∷ jobs_of trees f (old ++ Prove has.fails ∷ [])) (with_branch trees f x (record { test = test; holds = true }) has.holds.value has.holds_are)
+    ∙ ap (λ (jobs : List spec.Job). spec.Prove AtEntry (with_test (frame_added f (added_at trees x)) (tree_at trees test)) ∷ jobs)
     (jobs_top trees f (old ++ Prove has.fails ∷ []) old (Prove has.fails) refl
-    ∙ ap (λ (g : Frame). spec.Prove AtEntry g ∷ jobs_of trees f old) (with_branch trees f premises has.fails.items (record { test = test; holds = false }) has.fails_are))
+    ∙ ap (λ (g : Frame). spec.Prove AtEntry g ∷ jobs_of trees f old) (with_branch trees f x (record { test = test; holds = false }) has.fails.value has.fails_are))
 
 pub logs_inside : (n : ℕ) (goals : List ℕ) → All (λ (g : ℕ). g < n) goals → AreInside n (logs_last goals)
 unfolding logs_last

@@ -10,10 +10,10 @@ use Rattle.cert_check_lines_spec.specs.Parts as rules
 use Rattle.cert_check_lines_spec.specs.Parts.{Functions, Member, State, Unfolding, Inside, part_of, unfolded}
 use Rattle.cert_check_lines_spec.specs.Walk.{IsInPart, before_proof, in_proof}
 use Rattle.cert_check_frames.specs.declared.listed.Listed.{Listed}
-use Rattle.cert_check_frames.specs.Listed.{IsListed}
 use Rattle.cert_check_frames.proofs.Indexed.{one_item}
 use Rattle.cert_check.specs.declared.walk.Walk.{Walk}
-use Rattle.cert_check.specs.Walks.{AreMembers, IsPart, IsState, between, unfolding_part, inside, walk_jobs}
+use Rattle.cert_check.specs.Members.{AreMembers, IsMemberOf}
+use Rattle.cert_check.specs.Walks.{IsPart, IsState, between, unfolding_part, inside, walk_jobs}
 use Rattle.cert_check.proofs.Picked.{is_member}
 
 pub no_item : {X : Type 0} (xs before : List X) (x : X) → xs ≡ [] → xs ≡ before ++ x ∷ [] → ⊥
@@ -30,16 +30,16 @@ pub data HasJobs (parts : List Member) (f : Member) (jobs : List spec.Job) : Sta
   after_lines : HasJobs parts f jobs (Inside parts f (unfolded f) jobs)
 
 module _ (fs : Functions) (members parts : List Member) (f : Member) (jobs : List spec.Job) (offset : ℕ) (line : Line) where
-  pub accepts_there : (more : List spec.Job) (s : State) → HasJobs parts f jobs s → lines.Passes (part_of fs parts f (unfolded f)) offset jobs line more
+  pub accepts_there : (more : List spec.Job) (s : State) → HasJobs parts f jobs s → lines.Passes (part_of parts f (unfolded f)) offset jobs line more
       → rules.Accepts fs members offset s line (Inside parts f (unfolded f) more)
   accepts_there more _ (before_lines are) passes =
-      rules.first parts f (unfolded f) line more (subst (λ (l : List spec.Job). lines.Passes (part_of fs parts f (unfolded f)) offset l line more) are passes)
+      rules.first parts f (unfolded f) line more (subst (λ (l : List spec.Job). lines.Passes (part_of parts f (unfolded f)) offset l line more) are passes)
   accepts_there more _ after_lines passes = rules.next parts f (unfolded f) jobs more line passes
 
-  pub rejects_there : (at : ℕ) (wrong : lines.Fault) (s : State) → HasJobs parts f jobs s → lines.Fails (part_of fs parts f (unfolded f)) offset jobs line at wrong
+  pub rejects_there : (at : ℕ) (wrong : lines.Fault) (s : State) → HasJobs parts f jobs s → lines.Fails (part_of parts f (unfolded f)) offset jobs line at wrong
       → rules.Rejects fs members offset s line at f.listed.name wrong
   rejects_there at wrong _ (before_lines are) fails =
-      rules.first_wrong parts f (unfolded f) line at wrong (subst (λ (l : List spec.Job). lines.Fails (part_of fs parts f (unfolded f)) offset l line at wrong) are fails)
+      rules.first_wrong parts f (unfolded f) line at wrong (subst (λ (l : List spec.Job). lines.Fails (part_of parts f (unfolded f)) offset l line at wrong) are fails)
   rejects_there at wrong _ after_lines fails = rules.next_wrong parts f (unfolded f) jobs line at wrong fails
 
 pub begun_there : (parts : List Member) (f : Member) (jobs : List spec.Job) (s : State) → HasJobs parts f jobs s → IsInPart s f
@@ -53,7 +53,7 @@ pub record IsLast (codes : List Listed) (members : List Member) (walk : Walk) (f
   pub f : Member
   pub parts : List Member
   pub part : IsPart codes members walk function f parts
-  pub is : IsListed function f.listed
+  pub is : IsMemberOf function f
   pub has : HasJobs parts f (walk_jobs walk function) s
 
 module _ (codes : List Listed) (members : List Member) (walk : Walk) (are : AreMembers codes members) (before : List ℕ) (index : ℕ) (last : walk.parts.items ≡ before ++ index ∷ [])

@@ -15,7 +15,8 @@ use Rattle.cert_check.specs.declared.fault.Placed.{Placed}
 use Rattle.cert_check.specs.declared.logs.OpenLine.{OpenLine}
 use Rattle.cert_check.specs.declared.checker.Checker.{Checker}
 use Rattle.cert_check.specs.declared.checker.Given.{Given}
-use Rattle.cert_check.specs.Walks.{AreMembers, Expecting, IsFaultName, IsSound}
+use Rattle.cert_check.specs.Members.{AreMembers}
+use Rattle.cert_check.specs.Walks.{Expecting, IsFaultName, IsSound}
 use Rattle.cert_check.specs.Logs.{CanStep, IsAt}
 
 -- ---- where it is

@@ -1,11 +1,11 @@
 -- What the grammar of certificates expects where these are the jobs of a part.
-use Rattle.std.specs.Prelude.{◌≡◌, ℕ, true, Vec, List, [], ◌∷◌, ◌++◌}
+use Rattle.std.specs.Prelude.{◌≡◌, ℕ, true, Box, List, [], ◌∷◌, ◌++◌}
 use Rattle.std.specs.Global.{Global}
 use Rattle.cert_text_spec.specs.Lines.{Line}
 use Rattle.cert_text_spec.specs.Certificates.{Expected, TheParts, BinaryInlines, SourceInlines, AProof, ALog, after, can_stand}
-use Rattle.cert_check_frames.specs.declared.jobs.Branch.{Branch}
-use Rattle.cert_check_frames.specs.declared.jobs.Job.{Job}
-use Rattle.cert_check_frames.specs.declared.jobs.Job.TheVariants.{Prove, Close}
+use Rattle.cert_check_jobs.specs.declared.extra.Extra.{Extra}
+use Rattle.cert_check_jobs.specs.declared.jobs.Job.{Job}
+use Rattle.cert_check_jobs.specs.declared.jobs.Job.TheVariants.{Prove, Close}
 
 -- a proof is expected, perhaps after calls that are inlined
 pub data IsOfProof : Expected → Type 0 where
@@ -16,8 +16,8 @@ pub data IsOfProof : Expected → Type 0 where
 -- the first job is the last of the list; after all of them, the next part
 pub data AreOf : List Expected → List Job → Type 0 where
   no_job : AreOf (TheParts ∷ []) []
-  a_proof : (e : Expected) (others : List Expected) (below all : List Job) (premises : Vec Branch Global) → IsOfProof e → AreOf others below
-      → all ≡ below ++ Prove premises ∷ [] → AreOf (e ∷ others) all
+  a_proof : (e : Expected) (others : List Expected) (below all : List Job) (x : Box Extra Global) → IsOfProof e → AreOf others below
+      → all ≡ below ++ Prove x ∷ [] → AreOf (e ∷ others) all
   a_log : (others : List Expected) (below all : List Job) (goal : ℕ) → AreOf others below → all ≡ below ++ Close goal ∷ [] → AreOf (ALog ∷ others) all
 
 -- a line can be the next

@@ -1,6 +1,8 @@
 pub mod Jobs
+pub mod Members
 pub mod Expectations
 pub mod Steps
+pub mod Bounds
 pub mod Walks
 pub mod Logs
 pub mod Checkers

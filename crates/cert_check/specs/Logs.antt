@@ -31,10 +31,11 @@ use Rattle.cert_check.specs.declared.fault.Named.TheVariants as named
 use Rattle.cert_check.specs.declared.fault.Placed.{Placed}
 use Rattle.cert_check.specs.declared.logs.OpenLine.{OpenLine}
 use Rattle.cert_check.specs.declared.walk.Walk.{Walk}
-use Rattle.cert_check_frames.specs.declared.jobs.Job.TheVariants.{Close}
+use Rattle.cert_check_jobs.specs.declared.jobs.Job.TheVariants.{Close}
 use Rattle.cert_check_frames.specs.declared.listed.Listed.{Listed}
 use Rattle.cert_check_frames.specs.Parts.{IsNamed}
-use Rattle.cert_check.specs.Walks.{AreMembers, IsPart, walk_jobs, IsState, Expecting, Keeps, IsSound}
+use Rattle.cert_check.specs.Members.{AreMembers}
+use Rattle.cert_check.specs.Walks.{IsPart, walk_jobs, IsState, Expecting, Keeps, IsSound}
 
 -- a literal; one of no variable where the number is above those that are kept
 abbrev pub clipped : clause.Literal → clause.Literal

@@ -27,8 +27,9 @@ use Rattle.cert_check.specs.declared.fault.Named.{Named}
 use Rattle.cert_check.specs.declared.fault.Named.TheVariants as named
 use Rattle.cert_check_frames.specs.declared.listed.Listed.{Listed}
 use Rattle.cert_check.specs.declared.walk.Walk.{Walk}
-use Rattle.cert_check_frames.specs.Listed.{AreListed, IsListed, frame_at}
+use Rattle.cert_check_frames.specs.Listed.{frame_at}
 use Rattle.cert_check.specs.Jobs.{jobs_of}
+use Rattle.cert_check.specs.Members.{AreMembers, IsMemberOf}
 use Rattle.cert_check.specs.Expectations.{AreOf, IsNext, AreAfter}
 use Rattle.cert_check.specs.Steps.{IsKeptBy}
 use Rattle.cert_check_frames.specs.Parts.{AreIndices, IsNamed, IsMissingAt}
@@ -40,10 +41,6 @@ pub data ArePicked (members : List Member) : List ℕ → List Member → Type 0
   no_pick : ArePicked members [] []
   one_pick : (k : ℕ) (f : Member) (others : List ℕ) (rest : List Member) → slice_get members k ≡ Some f → ArePicked members others rest
       → ArePicked members (k ∷ others) (f ∷ rest)
-
--- the members are of these listed functions, in their order
-abbrev pub AreMembers : List Listed → List Member → Type 0
-AreMembers codes members = AreListed codes (map (λ (f : Member). f.listed) members)
 
 -- the part of the listed function of the last index has begun, after the parts of the others
 pub record IsPart (codes : List Listed) (members : List Member) (walk : Walk) (function : Listed) (f : Member) (parts : List Member) : Type 0 where
@@ -168,8 +165,8 @@ ComesAt p at before after line index (Err (Fault (Above q))) = (is_known line �
 ComesAt p at before after line index (Err NoMemory) = Unit {0}
 
 pub record IsInPart (function : Listed) (old now : Walk) (line : Line) (index : ℕ) (result : Result (Unit {0}) (Refusal NamedFault)) : Type 0 where
-  pub step : (fs : Functions) (parts : List Member) (f : Member) (at : ℕ) → IsListed function f.listed
-      → ComesAt (part_of fs parts f (unfolded f)) at (walk_jobs old function) (walk_jobs now function) line index result
+  pub step : (fs : Functions) (parts : List Member) (f : Member) (at : ℕ) → IsMemberOf function f
+      → ComesAt (part_of parts f (unfolded f)) at (walk_jobs old function) (walk_jobs now function) line index result
   pub kept : OnOk result (Keeps function now)
   pub follows : OnOk result (AreAfter old.jobs.items line now.jobs.items)
   pub parts : now.parts ≡ old.parts

@@ -4,7 +4,7 @@ ghost use Rattle.std.specs.Prelude.{◌≡◌, ◌≤◌, IfOk, Some, drop, map,
 ghost use Rattle.cert_text_parse.specs.Views as views;
 ghost use Rattle.cert_text_parse.specs.Views.{hints_in, literals_in};
 ghost use Rattle.cert_text_spec.specs.Lines as spec;
-ghost use Rattle.cert_check_frames.specs.Jobs.{IsGoalOnTop};
+ghost use Rattle.cert_check_jobs.specs.Jobs.{IsGoalOnTop};
 ghost use Rattle.cnf_core.specs.declared.literals.TheConstants.{MAX_VARIABLE};
 ghost use Rattle.discharge.specs.Closers.{OpenLog, TakesStep, open_of};
 ghost use Rattle.cert_check.specs.Walks.{IsWalk, Keeps};
@@ -14,7 +14,8 @@ ghost use Rattle.cert_check.specs.Logs.{begin_fault, clipped};
 use crate::fault::{Named, NamedFault, Placed};
 use crate::walk::Walk;
 use attempt::{Refusal, attempt};
-use cert_check_frames::{Listed, take_goal};
+use cert_check_frames::Listed;
+use cert_check_jobs::take_goal;
 use cert_check_spec::RuleWord;
 use cert_text_parse::Line;
 use clause_check::StepFault;

@@ -12,9 +12,10 @@ ghost use Rattle.cert_check.specs.Walks.{IsInside, IsOpened, IsPlain, IsWalk};
 ghost use Rattle.cert_check.specs.Walks.{IsNextAt, named_fault};
 
 use crate::fault::{Named, NamedFault, PartFault};
-use crate::rules::{case, leaf};
+use crate::rules::{case, leaf, restrict_binary, restrict_source};
 use attempt::{Refusal, attempt};
-use cert_check_frames::{Job, Listed, free, known, missing, push_proof};
+use cert_check_frames::{Listed, free, known, missing};
+use cert_check_jobs::{Job, at_entry, push_proof};
 use cert_check_spec::RuleWord;
 use cert_text_parse::{Line, Part};
 use sim_rules_terms::{Known, Opening};
@@ -46,7 +47,8 @@ fn open(alloc: Global, function: &Listed<'_>, walk: &mut Walk) -> Result<(), All
     walk.jobs.clear();
     walk.binary = attempt!(known(alloc, &mut walk.bank, function.binary_terms));
     walk.source = attempt!(known(alloc, &mut walk.bank, function.source_terms));
-    push_proof(&mut walk.jobs, Vec::new(alloc))
+    let extra = attempt!(at_entry(alloc));
+    push_proof(&mut walk.jobs, extra)
 }
 
 // The part of the listed function of an index, where its stack is this.
@@ -109,12 +111,7 @@ fn is_known(line: &Line) -> bool
 {
     !matches!(
         line,
-        Line::InlineBinary(_)
-            | Line::InlineSource(_)
-            | Line::RestrictBinary(_)
-            | Line::RestrictSource(_)
-            | Line::Split(_)
-            | Line::Call(_)
+        Line::InlineBinary(_) | Line::InlineSource(_) | Line::Split(_) | Line::Call(_)
     )
 }
 
@@ -140,6 +137,8 @@ fn part_line(
     match line {
         Line::Leaf(logs) => leaf(alloc, function, opening, bank, jobs, *logs),
         Line::Case(test) => case(alloc, function, opening, bank, jobs, test.as_slice()),
+        Line::RestrictBinary(line) => restrict_binary(alloc, function, opening, bank, jobs, line),
+        Line::RestrictSource(line) => restrict_source(alloc, function, opening, bank, jobs, line),
         _ => unreachable!(),
     }
 }

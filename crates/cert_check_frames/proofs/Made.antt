@@ -1,6 +1,6 @@
 -- Trees of tests, and frames, as they are made.
-use Rattle.std.proofs.Common.{◌≡◌, ◌∙◌, ℕ, ◌+◌, ◌<◌, ◌≤◌, true, false, Vec, Box, Global, List, [], ◌∷◌, ◌++◌, length, map, take, get_or, refl, sym, ap, ap₂, arith, length-append, append_assoc, append-nil}
-use Rattle.std.proofs.lemmas.List.{length-map, take_more, take_all, map_push, map_more, length-take-le, same_from_push}
+use Rattle.std.proofs.Common.{◌≡◌, ◌∙◌, ℕ, ◌+◌, ◌<◌, ◌≤◌, Box, Global, List, [], ◌∷◌, ◌++◌, length, map, take, get_or, refl, sym, ap, ap₂, arith, append_assoc, append-nil}
+use Rattle.std.proofs.lemmas.List.{length-map, take_more, take_all, map_push, map_more, length-take-le}
 use Rattle.std.proofs.lemmas.Option.{get_or_from_slice_get}
 use Rattle.term_core_spec.specs.Term.{Term}
 use Rattle.term_core.specs.declared.term.Term.{Term as CodeTerm}
@@ -14,11 +14,9 @@ use Rattle.proof_tree.specs.Frames as frames
 use Rattle.proof_tree.specs.Frames.{side_of, terms_of}
 use Rattle.proof_tree.specs.Scope.{setting_of}
 use Rattle.cert_check_frames.specs.declared.jobs.Branch.{Branch}
-use Rattle.cert_check_frames.specs.declared.jobs.Job.{Job}
-use Rattle.cert_check_frames.specs.declared.jobs.Job.TheVariants.{Prove, Close}
 use Rattle.cert_check_frames.specs.declared.listed.Listed.{Listed}
 use Rattle.cert_check_frames.specs.Listed.{frame_at, start_with}
-use Rattle.cert_check_frames.specs.Jobs.{premise_of, test_at, tests_at, premises_with, frame_with, logs_last, HasBranches}
+use Rattle.cert_check_frames.specs.Jobs.{premise_of, test_at, tests_at, premises_with, frame_with}
 
 -- the tree that a bank holds
 pub tree_held : (trees : List Term) (id : ℕ) (t : Term) → Holds trees id t → t ≡ tree_at trees id
@@ -120,36 +118,6 @@ pub frame_made : (f : Listed) (premises more : List Term) (start : Start) (goals
 frame_made f premises more start goals holds is are no_goal no_hold =
     ap (λ (s : Start). frame_by f s goals holds) (is ∙ ap (start_with f) are)
     ∙ ap₂ (λ (l : List Goal) (m : List Hold). frame_by f (start_with f (terms_of f.entry.now ++ more)) l m) no_goal no_hold
-
--- ---- logs
-
-pub log_added : (first old new : List Job) (left right : List ℕ) (goal : ℕ) → old ≡ first ++ logs_last right → new ≡ old ++ Close goal ∷ [] → left ≡ goal ∷ right → new ≡ first ++ logs_last left
-unfolding logs_last
-log_added first old new left right goal before now is =
-    now ∙ ap (λ (l : List Job). l ++ Close goal ∷ []) before ∙ append_assoc first (logs_last right) (Close goal ∷ [])
-    ∙ ap (λ (l : List ℕ). first ++ logs_last l) (sym is)
-
-pub no_log : (first : List Job) (goals : List ℕ) → goals ≡ [] → first ≡ first ++ logs_last goals
-unfolding logs_last
-no_log first goals none = sym (ap (λ (l : List ℕ). first ++ logs_last l) none ∙ append-nil first)
-
-pub has_branches : (old one two : List Job) (premises : List Branch) (test : ℕ) (fails holds : Vec Branch Global) → fails.items ≡ premises ++ (record { test = test; holds = false }) ∷ []
-    → holds.items ≡ premises ++ (record { test = test; holds = true }) ∷ [] → one ≡ old ++ Prove fails ∷ [] → two ≡ one ++ Prove holds ∷ [] → HasBranches old two premises test
-has_branches old one two premises test fails holds fails_are holds_are first second = record {
-  fails = fails;
-  holds = holds;
-  fails_are = fails_are;
-  holds_are = holds_are;
-  now = second ∙ ap (λ (l : List Job). l ++ Prove holds ∷ []) first;
-}
-
--- ---- what is taken
-
-pub never_empty : (jobs below : List Job) (job : Job) → length jobs ≡ 0 → jobs ≡ below ++ job ∷ [] → ⊥
-never_empty jobs below job none is = absurd (omega (arith, none, ap length is, length-append below (job ∷ [])))
-
-pub last_job : (jobs new below : List Job) (found job : Job) → jobs ≡ new ++ found ∷ [] → jobs ≡ below ++ job ∷ [] → found ≡ job
-last_job jobs new below found job taken is = (same_from_push new below found job (sym taken ∙ is)).1
 
 -- ---- where a frame starts
 

@@ -1,5 +1,7 @@
 -- What is made for the functions of a pair of files, as the definitions have it.
-use Rattle.std.specs.Prelude.{◌≡◌, ℕ, List, length, map, Some, slice_get}
+use Rattle.std.specs.Prelude.{◌≡◌, ℕ, Vec, List, [], length, map, get_or, Some, slice_get}
+use Rattle.std.specs.Global.{Global}
+use Rattle.indexmap.specs.IndexMap.{IndexMap}
 use Rattle.memory_spec.specs.declared.Run.{Run as CodeRun}
 use Rattle.memory_spec.specs.Viewed.{runs_of}
 use Rattle.elf_read_spec.specs.Image.{global_pointer}
@@ -9,6 +11,7 @@ use Rattle.decompile_spec.specs.Blocks.{Entrance}
 use Rattle.c_types_spec.specs.Core.{Body}
 use Rattle.c_graph_spec.specs.SourceGraph as source
 use Rattle.c_graph_spec.specs.SourceGraph.{body_number}
+use Rattle.proof_tree_spec.specs.declared.Place.{Place}
 use Rattle.proof_tree.specs.Frames.{terms_of}
 use Rattle.proof_tree.specs.Scope.{setting_of}
 use Rattle.sim_rules_spec.specs.Calling.{entry_lines, return_lines}
@@ -19,7 +22,9 @@ use Rattle.validity_laws.specs.Derivation.{Function, pair_for, stated}
 use Rattle.cert_check_frames.specs.declared.entries.Entry.{Entry}
 use Rattle.cert_check_frames.specs.declared.entries.File.{File}
 use Rattle.cert_check_frames.specs.declared.entries.Numbers.{Numbers}
+use Rattle.cert_check_frames.specs.declared.listed.PlaceNode.{PlaceNode}
 use Rattle.cert_check_frames.specs.Facts.{facts_of, binary_facts_of, source_facts_of}
+use Rattle.cert_check_frames.specs.Listed.{places_in}
 
 -- the function's body, its stack and its numbers; and what the file has
 pub record IsOf (q : Pair) (g : Function) (body : Body) (stack : ℕ) (numbers : Numbers) (file : File) : Type 0 where
@@ -61,3 +66,23 @@ pub record AreEntries (q : Pair) (functions : List Function) (entries : List Ent
 pub record AreConventions (q : Pair) (functions : List Function) (conventions : List Convention) : Type 0 where
   pub count : length conventions ≡ length functions
   pub each : (k : ℕ) (g : Function) (c : Convention) → slice_get functions k ≡ Some g → slice_get conventions k ≡ Some c → IsConventionFor q g c
+
+-- ---- points
+
+abbrev pub firsts_in : {S : Type 0} → IndexMap ℕ ℕ S → List (ℕ × ℕ)
+firsts_in by_address = by_address.entries
+
+-- of a graph that isn't there, none
+abbrev pub firsts_by : {S : Type 0} → List (IndexMap ℕ ℕ S) → (number : ℕ) → List (ℕ × ℕ)
+firsts_by maps number = get_or (map firsts_in maps) number []
+
+abbrev pub listed_places : Vec PlaceNode Global → List (Place × ℕ)
+listed_places places = places_in places.items
+
+abbrev pub places_by : List (Vec PlaceNode Global) → (number : ℕ) → List (Place × ℕ)
+places_by places number = get_or (map listed_places places) number []
+
+-- the first nodes of the code's instructions, by the numbers of graphs, and the nodes of the places of all bodies
+pub record AreSites {S : Type 0} (q : Pair) (firsts : List (List (ℕ × ℕ))) (maps : List (IndexMap ℕ ℕ S)) (places : List (Vec PlaceNode Global)) : Type 0 where
+  pub firsts_are : map firsts_in maps ≡ firsts
+  pub places_are : map listed_places places ≡ map (source.points_of q.unit (place_of q)) q.unit.bodies

@@ -1,12 +1,9 @@
--- What is expected inside a part of a certificate: proofs and logs, the first of them last.
-use Rattle.std.specs.Prelude.{◌≡◌, ℕ, ◌<◌, true, false, if◌then◌else◌, Vec, List, [], ◌∷◌, ◌++◌, map, All}
-use Rattle.std.specs.Global.{Global}
+-- Frames with further premises: tests, each as it holds.
+use Rattle.std.specs.Prelude.{ℕ, ◌<◌, if◌then◌else◌, List, [], ◌∷◌, ◌++◌, map, All}
 use Rattle.term_core_spec.specs.Term.{Term, not_term}
 use Rattle.term_bank.specs.Nodes.{tree_at}
 use Rattle.proof_tree_spec.specs.Frames.{Frame}
 use Rattle.cert_check_frames.specs.declared.jobs.Branch.{Branch}
-use Rattle.cert_check_frames.specs.declared.jobs.Job.{Job}
-use Rattle.cert_check_frames.specs.declared.jobs.Job.TheVariants.{Prove, Close}
 
 -- ---- premises
 
@@ -36,37 +33,7 @@ premises_with (b ∷ branches) (test ∷ tests) = premise_of b test ∷ premises
 abbrev pub frame_with : Frame → List Term → Frame
 frame_with f premises = record f { start = record f.start { premises = f.start.premises ++ premises } }
 
--- ---- jobs
-
--- logs of obligations, the first of them last
-unfoldable pub logs_last : (goals : List ℕ) → List Job
-logs_last [] = []
-logs_last (goal ∷ goals) = logs_last goals ++ Close goal ∷ []
-
--- a proof, or a log, comes first
-abbrev pub IsProofOnTop : List Job → Type 0
-IsProofOnTop jobs = (below : List Job) × (premises : Vec Branch Global) × (jobs ≡ below ++ Prove premises ∷ [])
-
-abbrev pub IsGoalOnTop : List Job → Type 0
-IsGoalOnTop jobs = (below : List Job) × (goal : ℕ) × (jobs ≡ below ++ Close goal ∷ [])
-
--- two proofs more, first the one where the test holds
-pub record HasBranches (old new : List Job) (premises : List Branch) (test : ℕ) : Type 0 where
-  pub fails : Vec Branch Global
-  pub holds : Vec Branch Global
-  pub fails_are : fails.items ≡ premises ++ (record { test = test; holds = false }) ∷ []
-  pub holds_are : holds.items ≡ premises ++ (record { test = test; holds = true }) ∷ []
-  pub now : new ≡ (old ++ Prove fails ∷ []) ++ Prove holds ∷ []
-
 -- ---- ids
 
 abbrev pub AreBelow : ℕ → List Branch → Type 0
 AreBelow n branches = All (λ (b : Branch). b.test < n) branches
-
--- a job's ids are of a bank of so many terms
-abbrev pub IsInside : ℕ → Job → Type 0
-IsInside n (Prove premises) = AreBelow n premises.items
-IsInside n (Close goal) = goal < n
-
-abbrev pub AreInside : ℕ → List Job → Type 0
-AreInside n jobs = All (IsInside n) jobs

@@ -1,5 +1,7 @@
 -- Listed functions: the frames at their entries, the terms of variables there, and which of the definitions they are.
-use Rattle.std.specs.Prelude.{◌≡◌, ℕ, List, [], ◌∷◌, length, Option, Some, None, slice_get, if◌then◌else◌}
+use Rattle.std.specs.Prelude.{◌≡◌, ℕ, List, [], ◌∷◌, length, map, get_or, Option, Some, None, slice_get, if◌then◌else◌}
+use Rattle.std.specs.Borrow.{Bor}
+use Rattle.indexmap.specs.IndexMap.{IndexMap}
 use Rattle.memory_spec.specs.Viewed.{runs_of}
 use Rattle.term_core_spec.specs.declared.Variable.{Variable}
 use Rattle.term_core_spec.specs.Same.{same_variable}
@@ -7,6 +9,7 @@ use Rattle.term_core_spec.specs.Term.{Term, open_term}
 use Rattle.term_core_spec.specs.Substitution.{State as Terms}
 use Rattle.term_core.specs.Trees.{term_of}
 use Rattle.path_cond.specs.States.{IsMapOf}
+use Rattle.proof_tree_spec.specs.declared.Place.{Place}
 use Rattle.proof_tree_spec.specs.Frames.{Frame, Start}
 use Rattle.proof_tree.specs.Frames.{side_of, terms_of}
 use Rattle.proof_tree.specs.Scope.{setting_of}
@@ -15,6 +18,7 @@ use Rattle.cert_check_spec.specs.Verdict as spec
 use Rattle.cert_check_terms.specs.Variables.{AreApart}
 use Rattle.cert_check_frames.specs.declared.listed.Fact.{Fact}
 use Rattle.cert_check_frames.specs.declared.listed.Listed.{Listed}
+use Rattle.cert_check_frames.specs.declared.listed.PlaceNode.{PlaceNode}
 
 -- the terms of these variables, the first of each; another variable is itself
 unfoldable pub terms_given : List Fact → Terms
@@ -48,6 +52,28 @@ frame_at f = record {
   holds = [];
 }
 
+-- ---- points
+
+-- by address the first node of each instruction of its code
+abbrev pub firsts_if : {S : Type 0} → Option (Bor (IndexMap ℕ ℕ S)) → List (ℕ × ℕ)
+firsts_if (Some firsts) = firsts.now.entries
+firsts_if None = []
+
+abbrev pub firsts_at : Listed → List (ℕ × ℕ)
+firsts_at code = firsts_if code.firsts
+
+-- the node of each place of its source
+abbrev pub place_of : PlaceNode → Place × ℕ
+place_of p = (p.place, p.node)
+
+abbrev pub places_in : List PlaceNode → List (Place × ℕ)
+places_in places = map place_of places
+
+abbrev pub places_at : Listed → List (Place × ℕ)
+places_at code = places_in code.places.now
+
+-- ---- which of the definitions it is
+
 -- the function is listed so. Its bodies are told apart, so that a spelling has one term at most
 pub record IsListed (code : Listed) (f : spec.Listed) : Type 0 where
   pub named : f.name ≡ code.name.now
@@ -57,6 +83,8 @@ pub record IsListed (code : Listed) (f : spec.Listed) : Type 0 where
   pub source_is : (v : Variable) → f.opening.source v ≡ terms_given code.source_terms.now v
   pub frame_is : f.frame ≡ frame_at code
   pub runs_are : f.runs ≡ runs_of code.runs.now
+  pub firsts_are : firsts_at code ≡ get_or f.firsts f.frame.binary.outermost []
+  pub places_are : places_at code ≡ get_or f.points f.frame.source.outermost []
   pub apart : AreApart f.frame.setting.bodies
 
 -- these are the listed functions, in their order

@@ -5,10 +5,10 @@
 //! the function returns, and [`list`] puts them together as the check takes them: exactly
 //! `listed_of` of `validity_laws`, that is the frames and terms of `agreement_laws`
 //! (`specs/EntryFrame.antt` there). [`frame`] gives the frame of a [`Listed`] with further
-//! premises, [`known`] the terms of its variables in a bank; a [`Job`] is what is expected inside
-//! its part. [`leaf_goals`] gives exactly the obligations of a Leaf of `sim_rules_spec`
-//! (`specs/Obligations.antt` there) at that frame, or why there are none (`specs/Goals.antt`):
-//! those that a certificate has logs for, and that the search looks for logs of.
+//! premises, [`known`] the terms of its variables in a bank. [`leaf_goals`] gives exactly the
+//! obligations of a Leaf of `sim_rules_spec` (`specs/Obligations.antt` there) at that frame, or why
+//! there are none (`specs/Goals.antt`): those that a certificate has logs for, and that the search
+//! looks for logs of.
 #![tactic(auto)]
 
 mod entries;
@@ -25,8 +25,8 @@ mod trees;
 pub use entries::{Entry, File, Numbers};
 pub use entry::{frame, known};
 pub use goals::leaf_goals;
-pub use jobs::{Branch, Job, push_branches, push_goals, push_proof, take_goal, take_proof};
-pub use listed::{Fact, Listed};
-pub use listing::list;
+pub use jobs::Branch;
+pub use listed::{Fact, Listed, PlaceNode};
+pub use listing::{Sites, list};
 pub use parts::{free, has_part, missing};
 pub use trees::tests;

@@ -1,9 +1,10 @@
 //! Listed functions.
 
 use graph_core::GraphRun;
+use indexmap::IndexMap;
 use memory_spec::Run;
 use proof_tree::Setting;
-use proof_tree_spec::Nodes;
+use proof_tree_spec::{Nodes, Place};
 use sim_rules_terms::Convention;
 use term_core::Term;
 use term_core_spec::Variable;
@@ -15,6 +16,15 @@ pub struct Fact {
     pub variable: Variable,
     /// The term.
     pub term: Box<Term>,
+}
+
+/// The node of a place of a source function in its graph.
+#[derive(Clone, Copy)]
+pub struct PlaceNode {
+    /// The place.
+    pub place: Place,
+    /// The node.
+    pub node: usize,
 }
 
 /// A function of which a certificate may have a part, and the frame at its entry: from the nodes at
@@ -45,4 +55,8 @@ pub struct Listed<'a> {
     pub source_terms: &'a [Fact],
     /// The fixed bytes.
     pub runs: &'a [Run],
+    /// The first node of each instruction of its code, by address.
+    pub firsts: Option<&'a IndexMap<u32, usize>>,
+    /// The nodes of the places of its source.
+    pub places: &'a [PlaceNode],
 }

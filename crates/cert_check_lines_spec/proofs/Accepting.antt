@@ -25,12 +25,12 @@ module _ (fs : Functions) (members : List Member) (Way : Member → Unfolded →
   Known (Between parts) = AreShown fs members Way parts
   Known (Unfolding parts f u) = AreShown fs members Way parts × (Contains members f × Way f u)
   Known (Inside parts f u jobs) =
-      AreShown fs members Way parts × ((Contains members f × Way f u) × (JobsShown (part_of fs parts f u) jobs → IsShown (part_of fs parts f u) AtEntry u.frame))
+      AreShown fs members Way parts × ((Contains members f × Way f u) × (JobsShown (part_of parts f u) jobs → IsShown (part_of parts f u) AtEntry u.frame))
 
   parts_shown : (s : State) (parts : List Member) → HasParts s parts → Known s → AreShown fs members Way parts
   unfolding Known
   parts_shown _ _ (at_start parts) h = h
-  parts_shown _ _ (at_close parts f u) h = one_more parts f u h.0 h.1.0.0 h.1.0.1 (h.1.1 (nothing_left (part_of fs parts f u)))
+  parts_shown _ _ (at_close parts f u) h = one_more parts f u h.0 h.1.0.0 h.1.0.1 (h.1.1 (nothing_left (part_of parts f u)))
 
   one_line : (at : ℕ) (s t : State) (one : Line) → Accepts fs members at s one t → Allowed one → Known s → Known t
   unfolding Known
@@ -41,8 +41,8 @@ module _ (fs : Functions) (members : List Member) (Way : Member → Unfolded →
   one_line at _ _ _ (inline_source parts f u path call node callee new calls is small) allowed h =
       (h.0, (h.1.0, sources f u path call node callee new allowed h.1.1 calls is))
   one_line at _ _ _ (first parts f u one jobs passes) allowed h =
-      (h.0, (h.1, λ shown. one_proof (part_of fs parts f u) AtEntry u.frame (before (part_of fs parts f u) at (Prove AtEntry u.frame ∷ []) jobs one passes shown)))
-  one_line at _ _ _ (next parts f u jobs more one passes) allowed h = (h.0, (h.1.0, λ shown. h.1.1 (before (part_of fs parts f u) at jobs more one passes shown)))
+      (h.0, (h.1, λ shown. one_proof (part_of parts f u) AtEntry u.frame (before (part_of parts f u) at (Prove AtEntry u.frame ∷ []) jobs one passes shown)))
+  one_line at _ _ _ (next parts f u jobs more one passes) allowed h = (h.0, (h.1.0, λ shown. h.1.1 (before (part_of parts f u) at jobs more one passes shown)))
   one_line at _ _ _ (last s parts has none_lacks) allowed h = parts_shown s parts has h
 
   all_lines : (at : ℕ) (s t : State) (lines : List Line) → AreAccepted fs members at s lines t → All Allowed lines → Known s → Known t

@@ -3,6 +3,7 @@ pub mod Jobs
 pub mod LineRules
 pub mod Shown
 pub mod Parts
+pub mod Members
 pub mod Walk
 pub mod Known
 pub mod Samples

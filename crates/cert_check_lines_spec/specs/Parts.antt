@@ -1,6 +1,6 @@
 -- The parts of a certificate, one line at a time: where the part of a function begins, the calls that it inlines, the lines
 -- of its proof, and the end. No line depends on those after it.
-use Rattle.std.specs.Prelude.{◌≡◌, ◌≢◌, ℕ, suc, ◌+◌, ◌<◌, ◌≤◌, Bool, List, [], ◌∷◌, ◌++◌, length, map, Contains, All, Option, Some, slice_get}
+use Rattle.std.specs.Prelude.{◌≡◌, ◌≢◌, ℕ, suc, ◌+◌, ◌<◌, ◌≤◌, Bool, List, [], ◌∷◌, ◌++◌, length, map, Contains, All, Option, Some}
 use Rattle.term_core_spec.specs.declared.Sort.{Sort}
 use Rattle.term_core_spec.specs.declared.Variable.{Variable}
 use Rattle.graph_core_spec.specs.Graph.{Binding, Call, Graph, node_at}
@@ -41,19 +41,28 @@ pub record SourceFunction : Type 0 where
   pub node : Place → Option ℕ
   pub locals : List Sort
 
--- those of both sides by the numbers of their graphs, and which of them are of one name
+-- those of both sides by the numbers of their graphs
 pub record Functions : Type 0 where
   pub code : ℕ → Option CodeFunction
   pub source : ℕ → Option SourceFunction
-  pub named_alike : (binary source : ℕ) → Bool
 
--- a listed function; what its callers know of it; the number of its source's graph; and its points
+-- where the points of a function's code are, and those of its source
+pub record CodePoints : Type 0 where
+  pub first : ℕ → Option ℕ
+  pub call : ℕ → Option ℕ
+
+pub record SourcePoints : Type 0 where
+  pub node : Place → Option ℕ
+
+-- a listed function; what its callers know of it; the number of its source's graph; its points; and which graphs of both
+-- sides are of functions of one name
 pub record Member : Type 0 where
   pub listed : Listed
   pub callee : Callee
   pub number : ℕ
-  pub code : CodeFunction
-  pub source : SourceFunction
+  pub code : CodePoints
+  pub source : SourcePoints
+  pub named_alike : (binary source : ℕ) → Bool
 
 -- ---- inlining
 
@@ -133,14 +142,14 @@ with_source f u path call callee new = record u {
 -- ---- the walk along a certificate
 
 -- what the lines of a function's proof speak of, after these parts
-abbrev pub part_of : Functions → (parts : List Member) → Member → Unfolded → Part
-part_of fs parts f u = record {
+abbrev pub part_of : (parts : List Member) → Member → Unfolded → Part
+part_of parts f u = record {
   convention = f.listed.convention;
   entry = f.listed.opening;
   runs = f.listed.runs;
   code = u.code;
   source = u.source;
-  named_alike = fs.named_alike;
+  named_alike = f.named_alike;
   earlier = map (λ (g : Member). (g.number, g.callee)) parts;
 }
 
@@ -176,9 +185,9 @@ module _ (fs : Functions) (members : List Member) where
     inline_source : (parts : List Member) (f : Member) (u : Unfolded) (path : List ℕ) (call node : ℕ) (callee : SourceFunction) (new : Graph) → IsSourceCall fs u path call node callee
         → inlined (graph_at u.frame.source) node callee.graph callee.own u.instance ≡ Some new → inlined_size (graph_at u.frame.source) callee.graph ≤ MAX_NODES
         → Accepts at (Unfolding parts f u) (line.InlineSource (record { path = path; place = place.Call call })) (Unfolding parts f (with_source f u path call callee new))
-    first : (parts : List Member) (f : Member) (u : Unfolded) (one : Line) (jobs : List Job) → Passes (part_of fs parts f u) at (Prove AtEntry u.frame ∷ []) one jobs
+    first : (parts : List Member) (f : Member) (u : Unfolded) (one : Line) (jobs : List Job) → Passes (part_of parts f u) at (Prove AtEntry u.frame ∷ []) one jobs
         → Accepts at (Unfolding parts f u) one (Inside parts f u jobs)
-    next : (parts : List Member) (f : Member) (u : Unfolded) (jobs more : List Job) (one : Line) → Passes (part_of fs parts f u) at jobs one more
+    next : (parts : List Member) (f : Member) (u : Unfolded) (jobs more : List Job) (one : Line) → Passes (part_of parts f u) at jobs one more
         → Accepts at (Inside parts f u jobs) one (Inside parts f u more)
     last : (s : State) (parts : List Member) → HasParts s parts → ((f : Listed) → LacksPart members parts f → ⊥) → Accepts at s line.End (Between parts)
 
@@ -201,9 +210,9 @@ module _ (fs : Functions) (members : List Member) where
         → MAX_NODES < inlined_size (graph_at u.frame.source) callee.graph
         → Rejects at (Unfolding parts f u) (line.InlineSource (record { path = path; place = place.Call call })) at f.listed.name (Above quantity.Nodes)
     first_wrong : (parts : List Member) (f : Member) (u : Unfolded) (one : Line) (offset : ℕ) (wrong : Fault)
-        → Fails (part_of fs parts f u) at (Prove AtEntry u.frame ∷ []) one offset wrong → Rejects at (Unfolding parts f u) one offset f.listed.name wrong
+        → Fails (part_of parts f u) at (Prove AtEntry u.frame ∷ []) one offset wrong → Rejects at (Unfolding parts f u) one offset f.listed.name wrong
     next_wrong : (parts : List Member) (f : Member) (u : Unfolded) (jobs : List Job) (one : Line) (offset : ℕ) (wrong : Fault)
-        → Fails (part_of fs parts f u) at jobs one offset wrong → Rejects at (Inside parts f u jobs) one offset f.listed.name wrong
+        → Fails (part_of parts f u) at jobs one offset wrong → Rejects at (Inside parts f u jobs) one offset f.listed.name wrong
     lacking : (s : State) (parts : List Member) (f : Listed) → HasParts s parts → LacksPart members parts f → Rejects at s line.End at f.name (Breaks fault.Missing)
 
   -- the lines, the first of which begins at the offset, are accepted one after the other
@@ -233,7 +242,7 @@ pub data Unfolds (fs : Functions) (f : Member) : Unfolded → Type 0 where
 pub data AreShown (fs : Functions) (members : List Member) (Way : Member → Unfolded → Type 0) : List Member → Type 0 where
   no_part : AreShown fs members Way []
   one_more : (parts : List Member) (f : Member) (u : Unfolded) → AreShown fs members Way parts → Contains members f → Way f u
-      → IsShown (part_of fs parts f u) AtEntry u.frame → AreShown fs members Way (parts ++ f ∷ [])
+      → IsShown (part_of parts f u) AtEntry u.frame → AreShown fs members Way (parts ++ f ∷ [])
 
 abbrev pub IsPlainLine : Line → Type 0
 IsPlainLine (line.InlineBinary point) = ⊥

@@ -5,6 +5,7 @@ mod Certified
 mod Files
 mod Numbered
 mod Placing
+mod Made
 mod Named
 mod Ready
 mod Listing

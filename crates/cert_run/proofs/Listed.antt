@@ -1,5 +1,5 @@
 -- The listed functions of pairs, as certificates speak of them, are those of what is made.
-use Rattle.std.proofs.Common.{◌≡◌, ◌∙◌, ℕ, zero, suc, List, [], ◌∷◌, All, length, get_or, map, Some, refl, sym, ap, arith}
+use Rattle.std.proofs.Common.{◌≡◌, ◌∙◌, ℕ, zero, suc, List, [], ◌∷◌, All, length, get_or, map, Some, refl, sym, ap, ap₂, arith}
 use Rattle.std.specs.Prelude.{slice_get}
 use Rattle.std.proofs.Math.Path.{fun_ext}
 use Rattle.memory_spec.specs.Runs.{Run}
@@ -14,7 +14,7 @@ use Rattle.pair_setup_spec.specs.Outcome as outcome
 use Rattle.pair_setup_spec.specs.Outcome.{IsPaired, Pairs}
 use Rattle.agreement_laws.specs.EntryFrame.{Pair}
 use Rattle.validity_laws.specs.CheckStatements.{listed_of}
-use Rattle.cert_run_spec.specs.Files.{AreFunctionsOf, AreListed, AreSides, CodeSide, firsts_at, no_side, sides_of}
+use Rattle.cert_run_spec.specs.Files.{AreFunctionsOf, AreListed, AreSides, CodeSide, firsts_at, firsts_of, no_side, sides_of}
 use Rattle.pair_setup.specs.Graphs.{AreCode, IsCodeBy}
 use Rattle.cert_run.specs.Sides.{function_in, functions_in, numbering_by, pair_with}
 use Rattle.cert_run.proofs.Named.{has_body}
@@ -45,6 +45,13 @@ firsts_from [] (first ∷ firsts) n e = absurd (omega (arith, e))
 firsts_from (graph ∷ graphs) [] n e = absurd (omega (arith, e))
 firsts_from (graph ∷ graphs) (first ∷ firsts) zero e = refl
 firsts_from (graph ∷ graphs) (first ∷ firsts) (suc n) e = firsts_from graphs firsts n (omega (arith, e))
+
+same_firsts : (graphs : Graphs) (firsts : List (List (ℕ × ℕ))) → length graphs ≡ length firsts → firsts_of (sides_from graphs firsts) ≡ firsts
+unfolding sides_from
+same_firsts [] [] e = refl
+same_firsts [] (first ∷ firsts) e = absurd (omega (arith, e))
+same_firsts (graph ∷ graphs) [] e = absurd (omega (arith, e))
+same_firsts (graph ∷ graphs) (first ∷ firsts) e = ap (λ (l : List (List (ℕ × ℕ))). first ∷ l) (same_firsts graphs firsts (omega (arith, e)))
 
 sides_are : (image : Image) (entries left : List ℕ) (graphs : Graphs) (firsts : List (List (ℕ × ℕ))) → length graphs ≡ length left → length firsts ≡ length left
     → ((k entry : ℕ) (graph : Graph) → slice_get left k ≡ Some entry → slice_get graphs k ≡ Some graph → IsCodeBy image entries entry graph (get_or firsts k []))
@@ -86,7 +93,7 @@ functions_are image unit (f ∷ functions) sound =
 
 module _ (image : Image) (unit : Typed) (list : List (List ℕ)) (pairs : Pairs) (paired : IsPaired image unit list pairs)
     (runs : List Run) (graphs : Graphs) (are_runs : AreRuns image runs) (code : AreCode image pairs.entries graphs) where
-  pub are_listed : AreListed image unit pairs (map (listed_of (pair_with image unit (numbering_by pairs.entries runs code.firsts) graphs)) (functions_in unit pairs))
+  pub are_listed : AreListed image unit pairs (map (listed_of (pair_with image unit (numbering_by pairs.entries runs code.firsts) graphs) code.firsts) (functions_in unit pairs))
   are_listed = record {
     runs = runs;
     runs_are = are_runs;
@@ -95,6 +102,7 @@ module _ (image : Image) (unit : Typed) (list : List (List ℕ)) (pairs : Pairs)
     functions = functions_in unit pairs;
     functions_are = functions_are image unit pairs.functions (sound_at image unit list pairs paired);
     listed_are =
-        ap (λ (p : Pair). map (listed_of p) (functions_in unit pairs))
-        (sym (same_sides image unit runs pairs.entries graphs code.firsts (code.graph_count ∙ sym code.first_count)));
+        ap₂ (λ (p : Pair) (firsts : List (List (ℕ × ℕ))). map (listed_of p firsts) (functions_in unit pairs))
+        (sym (same_sides image unit runs pairs.entries graphs code.firsts (code.graph_count ∙ sym code.first_count)))
+        (sym (same_firsts graphs code.firsts (code.graph_count ∙ sym code.first_count)));
   }

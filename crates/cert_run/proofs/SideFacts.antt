@@ -28,7 +28,7 @@ module _ (image : Image) (unit : Typed) (list : List (List ℕ)) (made : code.Pa
   pairs = pairs_of list made
 
   abbrev listed : List Listed
-  listed = map (listed_of has.pair) (functions_in unit pairs)
+  listed = map (listed_of has.pair has.firsts) (functions_in unit pairs)
 
   of_files : AreOfFiles image unit list pairs listed
   of_files = record {
@@ -41,7 +41,7 @@ module _ (image : Image) (unit : Typed) (list : List (List ℕ)) (made : code.Pa
 
   pub answers : ProofsAreValid → (certificate : List ℕ) (o : Outcome) → IsOutcomeBy s certificate o → Answers image unit pairs certificate o
   answers law certificate o by =
-      let is : IsOutcome listed certificate (outcome_of o) = by has.pair (functions_in unit pairs) has.entries has.graphs in
+      let is : IsOutcome listed certificate (outcome_of o) = by has.pair has.firsts (functions_in unit pairs) has.entries has.graphs has.sites in
       record {
         listed = listed;
         are = has.listed;
@@ -55,8 +55,8 @@ module _ (image : Image) (unit : Typed) (list : List (List ℕ)) (made : code.Pa
 
   pub finds : LoggedLeavesAreValid → FunctionsHaveTruths → (search : Search) → SearchesSides s search → Finds image unit pairs search
   finds law have search by =
-      let sorted = have has.pair (functions_in unit pairs) has.are.sides has.are.file has.are.functions_are in
-      let all = by has.pair (functions_in unit pairs) has.entries has.graphs (λ k d below. (sorted k d below).truths) in
+      let sorted = have has.pair has.firsts (functions_in unit pairs) has.are.sides has.are.file has.are.functions_are in
+      let all = by has.pair has.firsts (functions_in unit pairs) has.entries has.graphs has.sites (λ k d below. (sorted k d below).truths) in
       record {
         listed = listed;
         are = has.listed;

@@ -3,4 +3,5 @@ pub mod Searches
 pub mod Runs
 pub mod Sides
 pub mod Placed
+pub mod Sources
 pub mod Entries

@@ -14,7 +14,7 @@ use Rattle.cert_check_spec.specs.Verdict.{Listed}
 use Rattle.validity_laws.specs.CheckStatements.{listed_of}
 use Rattle.cert_run_spec.specs.Files.{AreListed}
 use Rattle.cert_run_spec.specs.Verdict.{IsOutcome}
-use Rattle.cert_check_frames.specs.Entries.{AreEntries, AreGraphs}
+use Rattle.cert_check_frames.specs.Entries.{AreEntries, AreGraphs, AreSites}
 use Rattle.cert_run.specs.Sides.{IsRead}
 use Rattle.cert_run.specs.declared.sides.Sides.{Sides}
 use Rattle.prove_run_spec.specs.Proofs.{HasTruths}
@@ -30,7 +30,8 @@ use Rattle.cert_run.specs.declared.outcome.Outcome.TheVariants.{Proof}
 -- whatever the functions are of which these are the sides
 abbrev pub OfSides : Sides → (List Listed → Type 0) → Type 0
 OfSides s P =
-    (q : Pair) (functions : List Function) → AreEntries q functions s.entries.items → AreGraphs q s.code.now s.source.items s.runs.items → P (map (listed_of q) functions)
+    (q : Pair) (firsts : List (List (ℕ × ℕ))) (functions : List Function) → AreEntries q functions s.entries.items → AreGraphs q s.code.now s.source.items s.runs.items
+    → AreSites q firsts s.firsts.now s.places.items → P (map (listed_of q firsts) functions)
 
 abbrev pub IsOutcomeBy : Sides → (bytes : List ℕ) → Outcome → Type 0
 IsOutcomeBy s bytes o = OfSides s (λ listed. IsOutcome listed bytes (outcome_of o))

@@ -19,7 +19,7 @@ use Rattle.validity_laws.specs.Derivation.{Function, AreSides}
 use Rattle.cert_check_lines_spec.specs.Known.{IsProof}
 use Rattle.validity_laws.specs.CheckStatements.{AreFunctions, AreLines, IsFile, listed_of}
 use Rattle.cert_run_spec.specs.Files.{AreListed}
-use Rattle.cert_check_frames.specs.Entries.{AreEntries, AreGraphs}
+use Rattle.cert_check_frames.specs.Entries.{AreEntries, AreGraphs, AreSites}
 use Rattle.cert_run.specs.declared.sides.Sides.{Sides}
 
 -- ---- numbers and functions
@@ -70,8 +70,10 @@ pub record HasSides (image : Image) (unit : Typed) (pairs : Pairs) (s : Sides) :
   pub pair : Pair
   pub are : AreSidesOf image unit pairs pair
   pub graphs : AreGraphs pair s.code.now s.source.items s.runs.items
+  pub firsts : List (List (ℕ × ℕ))
+  pub sites : AreSites pair firsts s.firsts.now s.places.items
   pub entries : AreEntries pair (functions_in unit pairs) s.entries.items
-  pub listed : AreListed image unit pairs (map (listed_of pair) (functions_in unit pairs))
+  pub listed : AreListed image unit pairs (map (listed_of pair firsts) (functions_in unit pairs))
 
 -- the image is that of a file of bytes
 pub record IsRead (image : Image) : Type 0 where
@@ -83,6 +85,6 @@ pub record IsRead (image : Image) : Type 0 where
 
 -- of a certificate that is a proof of the functions of pairs each is valid
 abbrev pub CheckedPairsAreValid : Type 0
-CheckedPairsAreValid = (image : Image) (unit : Typed) (list : List (List ℕ)) (pairs : Pairs) (q : Pair) (lines : List Line)
-    → outcome.IsPaired image unit list pairs → AreSidesOf image unit pairs q → AreLines lines → IsProof (map (listed_of q) (functions_in unit pairs)) lines
+CheckedPairsAreValid = (image : Image) (unit : Typed) (list : List (List ℕ)) (pairs : Pairs) (q : Pair) (firsts : List (List (ℕ × ℕ))) (lines : List Line)
+    → outcome.IsPaired image unit list pairs → AreSidesOf image unit pairs q → AreLines lines → IsProof (map (listed_of q firsts) (functions_in unit pairs)) lines
     → All (λ (f : outcome.Function). IsValid image unit f.name f.stack) pairs.functions

@@ -1,6 +1,6 @@
 //! Both sides of listed functions.
 
-ghost use Rattle.std.specs.Prelude.{◌≡◌, [], IfOk, List, OnOk, length, map};
+ghost use Rattle.std.specs.Prelude.{◌≡◌, ℕ, [], IfOk, List, OnOk, length, map};
 ghost use Rattle.c_graph_spec.specs.Sizes.{UnitSizes};
 ghost use Rattle.c_types_spec.specs.HasType.{IsTypedUnit};
 ghost use Rattle.c_types.specs.Typed.{typed_of};
@@ -10,16 +10,17 @@ ghost use Rattle.agreement_laws.specs.EntryFrame.{Pair};
 ghost use Rattle.validity_laws.specs.Derivation.{Function};
 ghost use Rattle.validity_laws.specs.CheckStatements.{listed_of};
 ghost use Rattle.cert_check_frames.specs.Listed.{AreListed};
-ghost use Rattle.cert_check_frames.specs.Entries.{AreConventions, AreEntries, AreGraphs};
+ghost use Rattle.cert_check_frames.specs.Entries.{AreConventions, AreEntries, AreGraphs, AreSites};
 ghost use Rattle.cert_run.specs.Sides.{HasSides, IsRead};
 
 use crate::functions::entries;
-use crate::source::source_graphs;
+use crate::source::{Sources, source_graphs};
 use attempt::attempt;
 use c_types::typed::Typed;
-use cert_check_frames::{Entry, File, Listed, list};
+use cert_check_frames::{Entry, File, Listed, PlaceNode, Sites, list};
 use elf_read::Image;
 use graph_core::Graph;
+use indexmap::IndexMap;
 use memory_spec::Run;
 use pair_setup::Pairs;
 use sim_rules_terms::Convention;
@@ -30,8 +31,12 @@ use std::alloc::{AllocError, Global};
 pub struct Sides<'a> {
     /// The graphs of the code of all functions that are reached, in the order of their entries.
     pub code: &'a [Graph],
+    /// By the numbers of these graphs, the first node of each instruction, by address.
+    pub firsts: &'a [IndexMap<u32, usize>],
     /// The graphs of all bodies, in the unit's order.
     pub source: Vec<Graph>,
+    /// By the numbers of bodies, the nodes of their places.
+    pub places: Vec<Vec<PlaceNode>>,
     /// The runs of fixed bytes.
     pub runs: Vec<Run>,
     /// What the frames at the entries of the listed functions are made of, in the list's order.
@@ -72,16 +77,22 @@ impl<'a> Sides<'a> {
             (pairs_of (texts_of list.now) pairs.now)) }
     {
         let runs = attempt!(image.runs(alloc));
-        let source = attempt!(source_graphs(alloc, image, unit, runs.as_slice()));
+        let Sources {
+            graphs: source,
+            places,
+        } = attempt!(source_graphs(alloc, image, unit, runs.as_slice()));
         let file = File {
             pointer: image.global_pointer(),
             runs: runs.as_slice(),
         };
         let entries = attempt!(entries(alloc, unit, file, list, pairs));
         let code = pairs.code.as_slice();
+        let firsts = pairs.firsts.as_slice();
         Ok(Sides {
             code,
+            firsts,
             source,
+            places,
             runs,
             entries,
         })
@@ -107,14 +118,19 @@ impl<'a> Sides<'a> {
         conventions: &'s [Convention<'s>],
     ) -> Result<Vec<Listed<'s>>, AllocError>
         requires { length self.now.entries.items ≡ length conventions.now }
-        ensures { (q : Pair) (functions : List Function)
+        ensures { (q : Pair) (firsts : List (List (ℕ × ℕ))) (functions : List Function)
             → AreEntries q functions self.now.entries.items
             → AreConventions q functions conventions.now
             → AreGraphs q self.now.code.now self.now.source.items self.now.runs.items
-            → IfOk result (λ all. AreListed all.items (map (listed_of q) functions)) }
+            → AreSites q firsts self.now.firsts.now self.now.places.items
+            → IfOk result (λ all. AreListed all.items (map (listed_of q firsts) functions)) }
     {
         let source = self.source.as_slice();
         let runs = self.runs.as_slice();
+        let sites = Sites {
+            firsts: self.firsts,
+            places: self.places.as_slice(),
+        };
         list(
             alloc,
             self.entries.as_slice(),
@@ -122,6 +138,7 @@ impl<'a> Sides<'a> {
             self.code,
             source,
             runs,
+            sites,
         )
     }
 }

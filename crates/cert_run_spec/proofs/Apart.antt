@@ -6,6 +6,7 @@ use Rattle.std.proofs.lemmas.Slice.Eq.{bytes_eq-Decides}
 use Rattle.elf_read_spec.specs.Image.{Image}
 use Rattle.c_types_spec.specs.Core.{Body, Typed}
 use Rattle.c_graph_spec.specs.State.{sort_of_scalar}
+use Rattle.c_graph_spec.specs.SourceGraph.{body_number}
 use Rattle.pair_setup_spec.specs.SourceReach.{body_of}
 use Rattle.pair_setup_spec.specs.Outcome as outcome
 use Rattle.pair_setup_spec.specs.Outcome.{IsFunction}
@@ -15,7 +16,8 @@ use Rattle.validity_laws.specs.Derivation.{Function}
 use Rattle.cert_check_terms.specs.Variables.{AreApart}
 use Rattle.cert_check_spec.specs.Verdict.{Listed}
 use Rattle.validity_laws.specs.CheckStatements.{listed_of}
-use Rattle.cert_run_spec.specs.Files.{IsFunctionOf, AreFunctionsOf, sides_of}
+use Rattle.validity_laws.proofs.SourceGraphs.{same_name}
+use Rattle.cert_run_spec.specs.Files.{IsFunctionOf, AreFunctionsOf, firsts_of, sides_of}
 use Rattle.cert_run_spec.specs.Laws.{AreToldApart, FunctionsAreToldApart}
 use Rattle.cert_run_spec.proofs.Listing.{same_function}
 
@@ -82,7 +84,7 @@ same_by_name image unit all g h x y name_is =
 
 -- ---- bodies of a function
 
-only_one : {X : Type 0} (x y : X) → Contains (x ∷ []) y → y ≡ x
+pub only_one : {X : Type 0} (x y : X) → Contains (x ∷ []) y → y ≡ x
 only_one x y (zero, below, is) = sym is
 only_one x y (suc k, below, is) = absurd (omega (arith, below))
 
@@ -101,17 +103,32 @@ pub told_apart : FunctionsAreToldApart
 told_apart image unit list pairs listed paired are =
     subst AreToldApart (sym are.listed_are)
     (record {
-      by_name = λ f g x y same. named f g (mapped_from (listed_of q) are.functions f x) (mapped_from (listed_of q) are.functions g y) same;
-      bodies = All-map (λ (f : Listed). AreApart f.frame.setting.bodies) (listed_of q) are.functions (λ k d inside. one_apart (get_or are.functions k d).body);
+      by_name = λ f g x y same. named f g (mapped_from (listed_of q firsts) are.functions f x) (mapped_from (listed_of q firsts) are.functions g y) same;
+      by_number = λ f g x y same. numbered f g (mapped_from (listed_of q firsts) are.functions f x) (mapped_from (listed_of q firsts) are.functions g y) same;
+      bodies = All-map (λ (f : Listed). AreApart f.frame.setting.bodies) (listed_of q firsts) are.functions (λ k d inside. one_apart (get_or are.functions k d).body);
     })
   where
     q : Pair
     q = sides_of image unit are.runs pairs.entries are.sides
 
+    firsts : List (List (ℕ × ℕ))
+    firsts = firsts_of are.sides
+
     pair : (g : Function) → Contains are.functions g → HasPair image unit pairs.functions g
     pair = has_pair image unit pairs.functions are.functions are.functions_are paired.functions_are
 
-    named : (f g : Listed) → (a : Function) × Contains are.functions a × (listed_of q a ≡ f) → (b : Function) × Contains are.functions b × (listed_of q b ≡ g) → f.name ≡ g.name → f ≡ g
+    named : (f g : Listed) → (a : Function) × Contains are.functions a × (listed_of q firsts a ≡ f) → (b : Function) × Contains are.functions b × (listed_of q firsts b ≡ g) → f.name ≡ g.name → f ≡ g
     named f g (a, x, is) (b, y, other) same =
         let names : a.body.name ≡ b.body.name = ap (λ (h : Listed). h.name) is ∙ (same ∙ sym (ap (λ (h : Listed). h.name) other)) in
-        sym is ∙ (ap (listed_of q) (same_by_name image unit pairs.functions a b (pair a x) (pair b y) names) ∙ other)
+        sym is ∙ (ap (listed_of q firsts) (same_by_name image unit pairs.functions a b (pair a x) (pair b y) names) ∙ other)
+
+    -- a number of a body is of one name
+    numbered : (f g : Listed) → (a : Function) × Contains are.functions a × (listed_of q firsts a ≡ f) → (b : Function) × Contains are.functions b × (listed_of q firsts b ≡ g)
+        → f.frame.source.outermost ≡ g.frame.source.outermost → f ≡ g
+    numbered f g (a, x, is) (b, y, other) same =
+        let numbers : body_number a.body.name unit.bodies ≡ body_number b.body.name unit.bodies =
+        ap (λ (h : Listed). h.frame.source.outermost) is ∙ (same ∙ sym (ap (λ (h : Listed). h.frame.source.outermost) other)) in
+        let of_b = pair b y in
+        let there : body_of unit b.body.name ≡ Some b.body = ap (body_of unit) (its_name image unit pairs.functions b of_b) ∙ of_b.of.body_is in
+        let names : a.body.name ≡ b.body.name = same_name unit.bodies a.body.name b.body.name b.body there numbers in
+        sym is ∙ (ap (listed_of q firsts) (same_by_name image unit pairs.functions a b (pair a x) of_b names) ∙ other)

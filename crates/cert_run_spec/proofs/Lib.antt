@@ -1,7 +1,10 @@
 mod Rising
 pub mod Listing
 pub mod Apart
+mod RuleTerms
+mod OnePoint
 mod Steps
+mod RuleSteps
 pub mod Once
 mod Sides
 mod Words

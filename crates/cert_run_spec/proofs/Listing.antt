@@ -21,7 +21,7 @@ use Rattle.pair_setup_spec.specs.Outcome.{IsPaired, IsFunction}
 use Rattle.pair_setup_spec.proofs.Stacks.{one_stack}
 use Rattle.validity_laws.specs.Derivation.{Function}
 use Rattle.validity_laws.specs.CheckStatements.{listed_of}
-use Rattle.cert_run_spec.specs.Files.{CodeSide, IsSide, AreSides, sides_of, IsFunctionOf, AreFunctionsOf}
+use Rattle.cert_run_spec.specs.Files.{CodeSide, IsSide, AreSides, firsts_of, sides_of, IsFunctionOf, AreFunctionsOf}
 use Rattle.cert_run_spec.specs.Laws.{ListsHaveOnePairing, FilesHaveOneList}
 use Rattle.cert_run_spec.proofs.Rising.{same_list, same_numbers}
 
@@ -158,9 +158,9 @@ one_list image unit pairs one two x y =
     let sides_are = one_sides image pairs.entries pairs.entries x.sides y.sides x.sides_are y.sides_are in
     let functions_are = one_functions unit pairs.functions x.functions y.functions x.functions_are y.functions_are in
     x.listed_are
-    ∙ (ap (λ (runs : List Run). map (listed_of (sides_of image unit runs pairs.entries x.sides)) x.functions) runs_are
-    ∙ (ap (λ (sides : List CodeSide). map (listed_of (sides_of image unit y.runs pairs.entries sides)) x.functions) sides_are
-    ∙ (ap (map (listed_of (sides_of image unit y.runs pairs.entries y.sides))) functions_are ∙ sym y.listed_are)))
+    ∙ (ap (λ (runs : List Run). map (listed_of (sides_of image unit runs pairs.entries x.sides) (firsts_of x.sides)) x.functions) runs_are
+    ∙ (ap (λ (sides : List CodeSide). map (listed_of (sides_of image unit y.runs pairs.entries sides) (firsts_of sides)) x.functions) sides_are
+    ∙ (ap (map (listed_of (sides_of image unit y.runs pairs.entries y.sides) (firsts_of y.sides))) functions_are ∙ sym y.listed_are)))
 
 -- ---- pairs
 

@@ -23,7 +23,9 @@ use Rattle.cert_check_lines_spec.specs.Parts as walk
 use Rattle.cert_check_lines_spec.specs.Parts.{Functions, Member, unfolded, part_of, State, Between, Unfolding, Inside, HasParts, at_start, at_close, LacksPart, Accepts}
 use Rattle.cert_check_lines_spec.specs.Walk as walks
 use Rattle.cert_check_lines_spec.specs.Walk.{Progress, Going, Stopped, before_all, TakesAll}
-use Rattle.cert_check_lines_spec.specs.Known.{is_known, AreMembersOf, IsProof, IsFault}
+use Rattle.cert_check_lines_spec.specs.Members.{members_of}
+use Rattle.cert_check_lines_spec.specs.Known.{is_known, IsProof, IsFault}
+use Rattle.cert_check_lines_spec.proofs.Members.{are_members}
 use Rattle.cert_check_lines_spec.proofs.Stepping.{closing_passes}
 use Rattle.prove_run_spec.specs.Proofs.{HasProof, AreClosedBy}
 use Rattle.cert_run_spec.specs.Verdict.{IsOutcome, Broken, broken, proof, Part, log_lines, proof_lines, proofs_lines, written_lines, end_offset}
@@ -124,7 +126,7 @@ module _ (fs : Functions) (members : List Member) where
       (taken_both (Going at s) (Going (past at lines) between) (Going (past (past at lines) more) end) lines more x y)
 
   pass_leads : (parts : List Member) (f : Member) (at : ℕ) (jobs last : List Job) (lines : List Line) → All IsKnownLine lines
-      → Pass (part_of fs parts f (unfolded f)) at jobs lines last → Leads at (Inside parts f (unfolded f) jobs) lines (Inside parts f (unfolded f) last)
+      → Pass (part_of parts f (unfolded f)) at jobs lines last → Leads at (Inside parts f (unfolded f) jobs) lines (Inside parts f (unfolded f) last)
   pass_leads parts f at jobs _ _ known (none _ _) = leads_none at (Inside parts f (unfolded f) jobs)
   pass_leads parts f at jobs last _ known (some _ _ next _ line lines passes rest) =
       leads_one at (Inside parts f (unfolded f) jobs) (Inside parts f (unfolded f) next) (Inside parts f (unfolded f) last) line lines (All-head IsKnownLine line lines known)
@@ -172,7 +174,7 @@ module _ (listed : List Listed) where
       missing : Contains parts f → ⊥
       missing (k, below, same) = is.none k f below (ap (λ (g : Listed). g.name) same)
 
-  module _ (fs : Functions) (members : List Member) (are : AreMembersOf listed members) where
+  module _ (fs : Functions) (members : List Member) (are : map listed_in members ≡ listed) where
     -- a part of a function that has none yet
     record Led (at : ℕ) (s : State) (p : Part) (parts : List Member) : Type 0 where
       member : Member
@@ -199,7 +201,7 @@ module _ (listed : List Listed) where
             let jobs = map Close proof_of.terms ++ [] in
             let first = at + length (line_text (Function p.function.name p.function.stack)) in
             let second = first + length (line_text (Leaf (length p.logs))) in
-            let part = part_of fs parts f (unfolded f) in
+            let part = part_of parts f (unfolded f) in
             let free_here : All (λ (other : Member). other.listed.name ≢ f.listed.name) parts =
             subst (λ (name : List ℕ). All (λ (other : Member). other.listed.name ≢ name) parts) (sym (ap (λ (g : Listed). g.name) same)) (free_names parts p.function.name free) in
             let begins : Accepts fs members at s (Function p.function.name p.function.stack) opened =
@@ -301,11 +303,11 @@ module _ (listed : List Listed) where
         (walks.stops at walked.state End at f.name (Breaks Missing) refl (walk.lacking walked.state walked.parts f walked.has lacks)) (walks.no_line (Stopped at f.name (Breaks Missing))))))
 
   pub proves_parts : (left : List Part) → map function_of left ≡ listed → All IsProved left → Distinct (map function_of left) → IsProof listed (written_lines left)
-  proves_parts left whole each apart = λ fs members are. proves_there fs members are left whole each apart
+  proves_parts left whole each apart = λ fs. proves_there fs (members_of listed) (are_members listed) left whole each apart
 
   pub misses_parts : (left : List Part) (f : Listed) → All IsAmong left → All IsProved left → Distinct (map function_of left) → IsMissing listed (map function_of left) f
       → IsFault listed (written_lines left) (end_offset left) f.name Missing
-  misses_parts left f among each apart missing = λ fs members are. misses_there fs members are left f among each apart missing
+  misses_parts left f among each apart missing = λ fs. misses_there fs (members_of listed) (are_members listed) left f among each apart missing
 
 -- ---- its spelling
 

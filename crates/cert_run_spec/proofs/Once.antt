@@ -1,10 +1,14 @@
 -- A certificate has one verdict at most.
-use Rattle.std.proofs.Common.{◌≡◌, ◌≢◌, ◌∙◌, ◌+◌, ℕ, suc, Bool, true, false, List, [], ◌∷◌, ◌++◌, length, map, Some, refl, sym, ap, subst, arith}
+use Rattle.std.proofs.Common.{◌≡◌, ◌≢◌, ◌∙◌, ◌+◌, ℕ, zero, suc, Bool, true, false, List, [], ◌∷◌, ◌++◌, length, map, take, drop, refl, sym, ap, subst, arith, append_assoc}
 use Rattle.std.specs.Prelude.{All, Contains}
-use Rattle.std.proofs.lemmas.List.Elements.{All-contains, All-map}
+use Rattle.std.proofs.lemmas.List.Elements.{All-nil, All-cons, All-append, All-contains, All-map}
 use Rattle.term_core_spec.specs.Term.{Term, not_term}
+use Rattle.proof_tree_spec.specs.Cuts.{once}
+use Rattle.proof_tree_spec.specs.Proofs.{BinaryPoint, SourcePoint}
+use Rattle.sim_rules_spec.specs.Obligations as rule
+use Rattle.sim_rules_spec.specs.Calls.{call_terms}
 use Rattle.proof_tree_spec.specs.Scope.{Setting}
-use Rattle.proof_tree_spec.specs.Frames.{Frame}
+use Rattle.proof_tree_spec.specs.Frames.{Frame, with_goal, goal_at, from_cut}
 use Rattle.clause_check_spec.specs.Clause.{Clause}
 use Rattle.clause_check_spec.specs.Log.{Step as Given}
 use Rattle.cert_text_spec.specs.declared.Symbol.{Symbol}
@@ -13,38 +17,32 @@ use Rattle.cert_text_spec.specs.Certificates.{IsCertificate}
 use Rattle.cert_text_laws.specs.Lines.{read_certificate}
 use Rattle.cert_text_laws.proofs.Certificates.{only, same_lines, one_fault}
 use Rattle.cert_check_terms.specs.Variables.{AreApart}
-use Rattle.cert_check_terms.specs.Reading.{line_of}
-use Rattle.cert_check_terms.proofs.Complete.{line_read}
 use Rattle.cert_check_spec.specs.declared.RuleWord.{RuleWord}
 use Rattle.cert_check_spec.specs.declared.RuleWord.TheVariants as fault
 use Rattle.tv_limits.specs.declared.Quantity.{Quantity}
 use Rattle.cert_check_spec.specs.Verdict.{Listed}
-use Rattle.cert_check_lines_spec.specs.Sites.{Part}
-use Rattle.cert_check_lines_spec.specs.Jobs.{Origin, AtEntry, opening, Draft, Job, Prove, Relate, Close, InLog}
+use Rattle.cert_check_lines_spec.specs.Sites.{Part, IsBinaryPoint, IsSourcePoint}
+use Rattle.cert_check_lines_spec.specs.Jobs.{Origin, AtEntry, AtCut, opening, Draft, OfSplit, OfCall, Job, Prove, Relate, Close, InLog, reading, pair_of, landing_of}
 use Rattle.cert_check_lines_spec.specs.LineRules as rules
-use Rattle.cert_check_lines_spec.specs.LineRules.{Fault, Breaks, Above as AboveLimit, IsRead, with_test, Passes, Fails}
+use Rattle.cert_check_lines_spec.specs.LineRules.{Fault, Breaks, Above as AboveLimit, with_test, binary_bounded, source_bounded, mark, Passes, Fails}
 use Rattle.cert_check_lines_spec.specs.Parts as walk
 use Rattle.cert_check_lines_spec.specs.Parts.{Functions, Member, Unfolded, unfolded, part_of, State, Between, Unfolding, Inside, HasParts, at_start, at_close, IsFree, LacksPart, Accepts, Rejects}
 use Rattle.cert_check_lines_spec.specs.Walk as walks
 use Rattle.cert_check_lines_spec.specs.Walk.{Progress, Going, Stopped, before_all, IsInPart, before_proof, in_proof, Takes, TakesAll}
+use Rattle.cert_check_lines_spec.specs.Members.{member_of, members_of}
 use Rattle.cert_check_lines_spec.specs.Known.{is_known, IsProof, IsFault, IsLimit}
-use Rattle.cert_check_lines_spec.proofs.Members.{no_functions, member_of, are_members}
+use Rattle.cert_check_lines_spec.proofs.Members.{no_functions}
 use Rattle.validity_laws.proofs.Excluded.{one_leaf}
 use Rattle.cert_run_spec.specs.Verdict.{Outcome, Unread, Broken, Above, IsOutcome, unread, broken, above, proof}
 use Rattle.cert_run_spec.specs.Laws.{AreToldApart, HasOneVerdict}
 use Rattle.cert_run_spec.proofs.Apart.{mapped_from}
-use Rattle.cert_run_spec.proofs.Steps.{Step, Goes, Stops, LeafStep, leaves, goes_round, too_many, other_logs, CaseStep, cases, no_test, OnProof, OnGoal, OnLog, log_comes, step_comes, Means, passes_means, fails_means}
+use Rattle.cert_run_spec.proofs.RuleTerms.{one_binary_restrict, one_source_restrict}
+use Rattle.cert_run_spec.proofs.OnePoint.{AreTold, one_binary_point, one_source_point, told_there}
+use Rattle.cert_run_spec.proofs.RuleSteps.{one_read, restrict_step, split_step, call_step, relation_step}
+use Rattle.cert_run_spec.proofs.Steps.{Step, Goes, Stops, LeafStep, leaves, goes_round, too_many, other_logs, CaseStep, cases, no_test, RestrictStep, SplitStep, CallStep, OnProof, OnGoal, OnLog, OnRelation, log_comes, step_comes, Means, passes_means, fails_means}
 
 one_certificate : (bytes : List ℕ) (one two : List Line) → IsCertificate bytes one → IsCertificate bytes two → one ≡ two
 one_certificate bytes one two x y = same_lines one two (read_certificate bytes) (only bytes one x) (only bytes two y)
-
--- ---- tests
-
-one_test : (f : Frame) (symbols : List Symbol) (one two : Term) → AreApart f.setting.bodies → IsRead f f.start.path symbols one → IsRead f f.start.path symbols two → one ≡ two
-one_test f symbols one two apart x y =
-    let left : line_of f.setting f.start.path symbols ≡ Some one = line_read f.setting f.start.path apart symbols one x.spelled x.line in
-    let right : line_of f.setting f.start.path symbols ≡ Some two = line_read f.setting f.start.path apart symbols two y.spelled y.line in
-    cc
 
 -- ---- jobs
 
@@ -82,11 +80,11 @@ left_in jobs = 0
 
 -- ---- what is kept
 
--- proofs are of frames with the function's variables, and no relation is read
+-- proofs and relations are of frames with the function's variables
 HaveSetting : Setting → List Job → Type 0
 HaveSetting s [] = Unit {0}
 HaveSetting s (Prove origin frame ∷ jobs) = (frame.setting ≡ s) × HaveSetting s jobs
-HaveSetting s (Relate origin frame draft lines left ∷ jobs) = ⊥
+HaveSetting s (Relate origin frame draft lines left ∷ jobs) = (frame.setting ≡ s) × HaveSetting s jobs
 HaveSetting s (Close goal ∷ jobs) = HaveSetting s jobs
 HaveSetting s (InLog offset variables clauses left ∷ jobs) = HaveSetting s jobs
 
@@ -95,15 +93,31 @@ unfolding HaveSetting
 logs_good s [] jobs good = good
 logs_good s (t ∷ terms) jobs good = logs_good s terms jobs good
 
+-- what a rule leaves once its lines are read
+reading_good : (p : Part) (s : Setting) (origin : Origin) (f : Frame) (draft : Draft) (lines : List Term) (left : ℕ) (jobs : List Job) → f.setting ≡ s → HaveSetting s jobs
+    → HaveSetting s (reading p origin f draft lines left ++ jobs)
+unfolding HaveSetting
+reading_good p s origin f (OfSplit nodes path enter step) lines zero jobs is good = (is, (is, good))
+reading_good p s origin f (OfCall call landing path pair callee before) lines zero jobs is good =
+    let goals = call_terms p.convention f pair callee (take before lines) (drop before lines) in
+    let proofs = Prove origin (with_goal f (goal_at call once (take before lines))) ∷ Prove AtCut (from_cut f landing path (drop before lines)) ∷ [] in
+    subst (HaveSetting s) (sym (append_assoc (map Close goals) proofs jobs)) (logs_good s goals (proofs ++ jobs) (is, (is, good)))
+reading_good p s origin f draft lines (suc left) jobs is good = (is, good)
+
 passes_good : (p : Part) (at : ℕ) (s : Setting) (jobs : List Job) (line : Line) (more : List Job) → is_known line ≡ true → Passes p at jobs line more → HaveSetting s jobs → HaveSetting s more
 unfolding HaveSetting
 passes_good p at s _ _ _ known (rules.leaf origin f jobs terms are) good = logs_good s terms jobs good.1
 passes_good p at s _ _ _ known (rules.case origin f jobs symbols test is) good = (good.0, (good.0, good.1))
-passes_good p at s _ _ _ known (rules.restrict_binary origin f jobs point node count terms is some are) good = absurd (cc)
-passes_good p at s _ _ _ known (rules.restrict_source origin f jobs point node count terms is some are) good = absurd (cc)
-passes_good p at s _ _ _ known (rules.split origin f jobs points nodes enter step relations are enters steps lets) good = absurd (cc)
-passes_good p at s _ _ _ known (rules.call origin f jobs points counts before later call binary source callee crosses) good = absurd (cc)
-passes_good p at s _ _ _ known (rules.relation origin f draft lines left jobs symbols t is) good = absurd good
+passes_good p at s _ _ _ known (rules.restrict_binary origin f jobs point node count terms is some are) good =
+    logs_good s terms (Prove origin (binary_bounded f (mark node count)) ∷ jobs) good
+passes_good p at s _ _ _ known (rules.restrict_source origin f jobs point node count terms is some are) good =
+    logs_good s terms (Prove origin (source_bounded f (mark node count)) ∷ jobs) good
+passes_good p at s _ _ _ known (rules.split origin f jobs points nodes enter step relations are enters steps lets) good =
+    reading_good p s origin f (OfSplit nodes points.source.path enter step) [] relations jobs good.0 good.1
+passes_good p at s _ _ _ known (rules.call origin f jobs points counts before later call binary source callee crosses) good =
+    reading_good p s origin f (OfCall call (landing_of binary source) points.source.path (pair_of binary source) callee before) [] (before + later) jobs good.0 good.1
+passes_good p at s _ _ _ known (rules.relation origin f draft lines left jobs symbols t is) good =
+    reading_good p s origin f draft (lines ++ t ∷ []) left jobs good.0 good.1
 passes_good p at s _ _ _ known (rules.no_log goal jobs small plain) good = good
 passes_good p at s _ _ _ known (rules.log goal jobs left small few) good = good
 passes_good p at s _ _ _ known (rules.step offset variables clauses left jobs one follows) good = good
@@ -136,7 +150,7 @@ leaf_step p at origin frame below logs _ _ (other_logs terms x e) (other_logs ot
 case_step : (at : ℕ) (origin : Origin) (frame : Frame) (below : List Job) (symbols : List Symbol) (one two : Step) → AreApart frame.setting.bodies
     → CaseStep at origin frame below symbols one → CaseStep at origin frame below symbols two → one ≡ two
 case_step at origin frame below symbols _ _ apart (cases test is) (cases other is2) =
-    ap (λ (t : Term). Goes (Prove origin (with_test frame t) ∷ Prove origin (with_test frame (not_term t)) ∷ below)) (one_test frame symbols test other apart is is2)
+    ap (λ (t : Term). Goes (Prove origin (with_test frame t) ∷ Prove origin (with_test frame (not_term t)) ∷ below)) (one_read frame frame.start.path symbols test other apart is is2)
 case_step at origin frame below symbols _ _ apart (cases test is) (no_test none) = absurd (none test is)
 case_step at origin frame below symbols _ _ apart (no_test none) (cases other is2) = absurd (none other is2)
 case_step at origin frame below symbols _ _ apart (no_test none) (no_test again) = refl
@@ -171,33 +185,58 @@ top_setting : (s : Setting) (jobs below : List Job) (origin : Origin) (frame : F
 unfolding HaveSetting
 top_setting s jobs below origin frame good is = (subst (HaveSetting s) is good).0
 
-no_relation : (s : Setting) (jobs below : List Job) (origin : Origin) (frame : Frame) (draft : Draft) (lines : List Term) (left : ℕ) → HaveSetting s jobs
-    → jobs ≡ Relate origin frame draft lines left ∷ below → ⊥
+on_relation : (p : Part) (at : ℕ) (s : Setting) (symbols : List Symbol) (jobs : List Job) (one two : Step) → AreApart s.bodies → HaveSetting s jobs → OnRelation p at symbols one jobs
+    → OnRelation p at symbols two jobs → one ≡ two
 unfolding HaveSetting
-no_relation s jobs below origin frame draft lines left good is = subst (HaveSetting s) is good
+on_relation p at s symbols (Relate origin frame draft lines left ∷ below) one two apart good x y =
+    relation_step p at origin frame draft lines left below symbols (subst (λ (t : Setting). AreApart t.bodies) (sym good.0) apart) one two x y
+on_relation p at s symbols [] one two apart good x y = absurd x
+on_relation p at s symbols (Prove origin frame ∷ below) one two apart good x y = absurd x
+on_relation p at s symbols (Close goal ∷ below) one two apart good x y = absurd x
+on_relation p at s symbols (InLog offset variables clauses left ∷ below) one two apart good x y = absurd x
+
+abbrev OfBinary : Part → (at : ℕ) → BinaryPoint → (count : ℕ) → Step → Origin → Frame → List Job → Type 0
+OfBinary p at point count step origin frame below =
+    RestrictStep p at origin frame below (IsBinaryPoint p frame point) (λ node. rule.RestrictBinary (mark node count)) (λ node. binary_bounded frame (mark node count)) count step
+
+abbrev OfSource : Part → (at : ℕ) → SourcePoint → (count : ℕ) → Step → Origin → Frame → List Job → Type 0
+OfSource p at point count step origin frame below =
+    RestrictStep p at origin frame below (IsSourcePoint p frame point) (λ node. rule.RestrictSource (mark node count)) (λ node. source_bounded frame (mark node count)) count step
 
 -- a line comes to one thing
-one_step : (p : Part) (at : ℕ) (s : Setting) (jobs : List Job) (line : Line) (one two : Step) → AreApart s.bodies → HaveSetting s jobs → is_known line ≡ true → Means p at jobs line one
-    → Means p at jobs line two → one ≡ two
-one_step p at s jobs (Leaf logs) one two apart good known x y =
+one_step : (p : Part) (at : ℕ) (s : Setting) (jobs : List Job) (line : Line) (one two : Step) → AreTold p → AreApart s.bodies → HaveSetting s jobs → is_known line ≡ true
+    → Means p at jobs line one → Means p at jobs line two → one ≡ two
+one_step p at s jobs (Leaf logs) one two told apart good known x y =
     on_proof (λ origin frame below. LeafStep p at origin frame below logs one) (λ origin frame below. LeafStep p at origin frame below logs two) jobs
     (λ origin frame below top a b. leaf_step p at origin frame below logs one two a b) x y
-one_step p at s jobs (Case symbols) one two apart good known x y =
+one_step p at s jobs (Case symbols) one two told apart good known x y =
     on_proof (λ origin frame below. CaseStep at origin frame below symbols one) (λ origin frame below. CaseStep at origin frame below symbols two) jobs
     (λ origin frame below top a b.
     case_step at origin frame below symbols one two (subst (λ (t : Setting). AreApart t.bodies) (sym (top_setting s jobs below origin frame good top)) apart) a b) x y
-one_step p at s jobs (Log steps) one two apart good known x y = on_goal p at jobs steps one two x y
-one_step p at s jobs (LogStep l) one two apart good known x y = on_log at jobs l one two x y
-one_step p at s jobs (Relation t) one two apart good known x y = absurd (no_relation s jobs x.below x.origin x.frame x.draft x.lines x.left good x.top)
-one_step p at s jobs Header one two apart good known x y = absurd (cc)
-one_step p at s jobs (Function name stack) one two apart good known x y = absurd (cc)
-one_step p at s jobs (InlineBinary point) one two apart good known x y = absurd (cc)
-one_step p at s jobs (InlineSource point) one two apart good known x y = absurd (cc)
-one_step p at s jobs (RestrictBinary point count) one two apart good known x y = absurd (cc)
-one_step p at s jobs (RestrictSource point count) one two apart good known x y = absurd (cc)
-one_step p at s jobs (Split points enter step relations) one two apart good known x y = absurd (cc)
-one_step p at s jobs (Call points counts before later) one two apart good known x y = absurd (cc)
-one_step p at s jobs End one two apart good known x y = absurd (cc)
+one_step p at s jobs (Log steps) one two told apart good known x y = on_goal p at jobs steps one two x y
+one_step p at s jobs (LogStep l) one two told apart good known x y = on_log at jobs l one two x y
+one_step p at s jobs (Relation t) one two told apart good known x y = on_relation p at s t jobs one two apart good x y
+one_step p at s jobs Header one two told apart good known x y = absurd (cc)
+one_step p at s jobs (Function name stack) one two told apart good known x y = absurd (cc)
+one_step p at s jobs (InlineBinary point) one two told apart good known x y = absurd (cc)
+one_step p at s jobs (InlineSource point) one two told apart good known x y = absurd (cc)
+one_step p at s jobs (RestrictBinary point count) one two told apart good known x y =
+    on_proof (OfBinary p at point count one) (OfBinary p at point count two) jobs
+    (λ origin frame below top a b.
+    restrict_step p at origin frame below (IsBinaryPoint p frame point) (λ node. rule.RestrictBinary (mark node count)) (λ node. binary_bounded frame (mark node count)) count
+    (one_binary_point p told frame point) (λ node. one_binary_restrict (opening p origin) frame (mark node count)) one two a b) x y
+one_step p at s jobs (RestrictSource point count) one two told apart good known x y =
+    on_proof (OfSource p at point count one) (OfSource p at point count two) jobs
+    (λ origin frame below top a b.
+    restrict_step p at origin frame below (IsSourcePoint p frame point) (λ node. rule.RestrictSource (mark node count)) (λ node. source_bounded frame (mark node count)) count
+    (one_source_point p told frame point) (λ node. one_source_restrict (opening p origin) frame (mark node count)) one two a b) x y
+one_step p at s jobs (Split points enter step relations) one two told apart good known x y =
+    on_proof (λ origin frame below. SplitStep p at origin frame below points enter step relations one) (λ origin frame below. SplitStep p at origin frame below points enter step relations two) jobs
+    (λ origin frame below top a b. split_step p told at origin frame below points enter step relations one two a b) x y
+one_step p at s jobs (Call points counts before later) one two told apart good known x y =
+    on_proof (λ origin frame below. CallStep p at origin frame below points counts before later one) (λ origin frame below. CallStep p at origin frame below points counts before later two) jobs
+    (λ origin frame below top a b. call_step p told at origin frame below points counts before later one two a b) x y
+one_step p at s jobs End one two told apart good known x y = absurd (cc)
 
 -- ---- the functions of parts
 
@@ -243,7 +282,7 @@ InOpen P (Inside parts f u jobs) = P parts f u jobs
 
 record InsideCame (fs : Functions) (at : ℕ) (parts : List Member) (f : Member) (u : Unfolded) (jobs : List Job) (line : Line) (came : Came) : Type 0 where
   step : Step
-  means : Means (part_of fs parts f u) at jobs line step
+  means : Means (part_of parts f u) at jobs line step
   is : came ≡ came_in parts f u step
 
 -- `function NAME stack N`
@@ -339,11 +378,11 @@ module _ (fs : Functions) (members : List Member) (at : ℕ) where
   accepts_comes _ _ _ known (walk.inline_code parts f u point node callee new calls is small) = absurd (cc)
   accepts_comes _ _ _ known (walk.inline_source parts f u path call node callee new calls is small) = absurd (cc)
   accepts_comes _ _ _ known (walk.first parts f u one jobs passes) =
-      inside_comes fs members at (Unfolding parts f u) one (To (Inside parts f u jobs)) (passes_inside (part_of fs parts f u) at (Prove AtEntry u.frame ∷ []) one jobs passes)
-      (record { step = Goes jobs; means = passes_means (part_of fs parts f u) at (Prove AtEntry u.frame ∷ []) one jobs known passes; is = refl })
+      inside_comes fs members at (Unfolding parts f u) one (To (Inside parts f u jobs)) (passes_inside (part_of parts f u) at (Prove AtEntry u.frame ∷ []) one jobs passes)
+      (record { step = Goes jobs; means = passes_means (part_of parts f u) at (Prove AtEntry u.frame ∷ []) one jobs known passes; is = refl })
   accepts_comes _ _ _ known (walk.next parts f u jobs more one passes) =
-      inside_comes fs members at (Inside parts f u jobs) one (To (Inside parts f u more)) (passes_inside (part_of fs parts f u) at jobs one more passes)
-      (record { step = Goes more; means = passes_means (part_of fs parts f u) at jobs one more known passes; is = refl })
+      inside_comes fs members at (Inside parts f u jobs) one (To (Inside parts f u more)) (passes_inside (part_of parts f u) at jobs one more passes)
+      (record { step = Goes more; means = passes_means (part_of parts f u) at jobs one more known passes; is = refl })
   accepts_comes _ _ _ known (walk.last s parts has none) = ends parts has none
 
   rejects_comes : (s : State) (line : Line) (offset : ℕ) (name : List ℕ) (wrong : Fault) → is_known line ≡ true → Rejects fs members at s line offset name wrong
@@ -355,34 +394,52 @@ module _ (fs : Functions) (members : List Member) (at : ℕ) where
   rejects_comes _ _ _ _ _ known (walk.no_source_call parts f u point none) = absurd (cc)
   rejects_comes _ _ _ _ _ known (walk.source_nodes parts f u path call node callee calls more) = absurd (cc)
   rejects_comes _ _ _ _ _ known (walk.first_wrong parts f u one offset wrong fails) =
-      inside_comes fs members at (Unfolding parts f u) one (Wrong offset f.listed.name wrong) (fails_inside (part_of fs parts f u) at (Prove AtEntry u.frame ∷ []) one offset wrong fails)
-      (record { step = Stops offset wrong; means = fails_means (part_of fs parts f u) at (Prove AtEntry u.frame ∷ []) one offset wrong known fails; is = refl })
+      inside_comes fs members at (Unfolding parts f u) one (Wrong offset f.listed.name wrong) (fails_inside (part_of parts f u) at (Prove AtEntry u.frame ∷ []) one offset wrong fails)
+      (record { step = Stops offset wrong; means = fails_means (part_of parts f u) at (Prove AtEntry u.frame ∷ []) one offset wrong known fails; is = refl })
   rejects_comes _ _ _ _ _ known (walk.next_wrong parts f u jobs one offset wrong fails) =
-      inside_comes fs members at (Inside parts f u jobs) one (Wrong offset f.listed.name wrong) (fails_inside (part_of fs parts f u) at jobs one offset wrong fails)
-      (record { step = Stops offset wrong; means = fails_means (part_of fs parts f u) at jobs one offset wrong known fails; is = refl })
+      inside_comes fs members at (Inside parts f u jobs) one (Wrong offset f.listed.name wrong) (fails_inside (part_of parts f u) at jobs one offset wrong fails)
+      (record { step = Stops offset wrong; means = fails_means (part_of parts f u) at jobs one offset wrong known fails; is = refl })
   rejects_comes _ _ _ _ _ known (walk.lacking s parts f has is) = lacks parts f has is
 
 -- ---- members that are told apart
 
 record AreApartMembers (members : List Member) : Type 0 where
   by_name : (f g : Member) → Contains members f → Contains members g → f.listed.name ≡ g.listed.name → f ≡ g
+  by_number : (f g : Member) → Contains members f → Contains members g → f.number ≡ g.number → f ≡ g
   bodies : All (λ (f : Member). AreApart f.listed.frame.setting.bodies) members
 
-apart_members : (listed : List Listed) → AreToldApart listed → AreApartMembers (map member_of listed)
+apart_members : (listed : List Listed) → AreToldApart listed → AreApartMembers (members_of listed)
 apart_members listed apart = record {
   by_name = λ f g x y same.
       let a = mapped_from member_of listed f x in
       let b = mapped_from member_of listed g y in
       let names : a.0.name ≡ b.0.name = ap (λ (h : Member). h.listed.name) a.2 ∙ (same ∙ sym (ap (λ (h : Member). h.listed.name) b.2)) in
       sym a.2 ∙ (ap member_of (apart.by_name a.0 b.0 a.1 b.1 names) ∙ b.2);
+  by_number = λ f g x y same.
+      let a = mapped_from member_of listed f x in
+      let b = mapped_from member_of listed g y in
+      let numbers : a.0.frame.source.outermost ≡ b.0.frame.source.outermost = ap (λ (h : Member). h.number) a.2 ∙ (same ∙ sym (ap (λ (h : Member). h.number) b.2)) in
+      sym a.2 ∙ (ap member_of (apart.by_number a.0 b.0 a.1 b.1 numbers) ∙ b.2);
   bodies = All-map (λ (f : Member). AreApart f.listed.frame.setting.bodies) member_of listed apart.bodies;
 }
 
 module _ (fs : Functions) (members : List Member) (apart : AreApartMembers members) where
+  abbrev AreAmong : List Member → Type 0
+  AreAmong parts = All (Contains members) parts
+
   abbrev IsGood : State → Type 0
-  IsGood (Between parts) = Unit {0}
-  IsGood (Unfolding parts f u) = Contains members f × (u.frame.setting ≡ f.listed.frame.setting)
-  IsGood (Inside parts f u jobs) = Contains members f × HaveSetting f.listed.frame.setting jobs
+  IsGood (Between parts) = AreAmong parts
+  IsGood (Unfolding parts f u) = AreAmong parts × Contains members f × (u ≡ unfolded f)
+  IsGood (Inside parts f u jobs) = AreAmong parts × Contains members f × (u ≡ unfolded f) × HaveSetting f.listed.frame.setting jobs
+
+  -- the functions of parts are members
+  among_parts : (s : State) (parts : List Member) → HasParts s parts → IsGood s → AreAmong parts
+  among_parts _ _ (at_start parts) good = good
+  among_parts _ _ (at_close parts f u) good =
+      All-append (Contains members) parts (f ∷ []) good.0 (All-cons (Contains members) f [] good.1 (All-nil (Contains members)))
+
+  told : (parts : List Member) (f : Member) (u : Unfolded) → AreAmong parts → u ≡ unfolded f → AreTold (part_of parts f u)
+  told parts f u among is = subst (λ (w : Unfolded). AreTold (part_of parts f w)) (sym is) (told_there members parts f apart.by_number among)
 
   one_free : (parts : List Member) (name : List ℕ) (f g : Member) → IsFree members parts name f → IsFree members parts name g → f ≡ g
   one_free parts name f g x y = apart.by_name f g x.is_listed y.is_listed (x.named ∙ sym y.named)
@@ -417,21 +474,22 @@ module _ (fs : Functions) (members : List Member) (apart : AreApartMembers membe
       ap (λ (h : Listed). Wrong at h.name (Breaks fault.Missing))
       (first_missing (map (λ (m : Member). m.listed) parts) is.before there.before is.after there.after f g (sym is.cut ∙ there.cut) is.none there.none is.others there.others)
 
-  inside_came : (at : ℕ) (parts : List Member) (f : Member) (u : Unfolded) (jobs : List Job) (line : Line) (one two : Came) → Contains members f → HaveSetting f.listed.frame.setting jobs
-      → is_known line ≡ true → InsideCame fs at parts f u jobs line one → InsideCame fs at parts f u jobs line two → one ≡ two
-  inside_came at parts f u jobs line one two among good known x y =
+  inside_came : (at : ℕ) (parts : List Member) (f : Member) (u : Unfolded) (jobs : List Job) (line : Line) (one two : Came) → AreTold (part_of parts f u) → Contains members f
+      → HaveSetting f.listed.frame.setting jobs → is_known line ≡ true → InsideCame fs at parts f u jobs line one → InsideCame fs at parts f u jobs line two → one ≡ two
+  inside_came at parts f u jobs line one two is_told among good known x y =
       x.is
       ∙ (ap (came_in parts f u)
-      (one_step (part_of fs parts f u) at f.listed.frame.setting jobs line x.step y.step (All-contains (λ (g : Member). AreApart g.listed.frame.setting.bodies) members f apart.bodies among)
-      good known x.means y.means)
+      (one_step (part_of parts f u) at f.listed.frame.setting jobs line x.step y.step is_told
+      (All-contains (λ (g : Member). AreApart g.listed.frame.setting.bodies) members f apart.bodies among) good known x.means y.means)
       ∙ sym y.is)
 
   in_open : (at : ℕ) (s : State) (line : Line) (one two : Came) → IsGood s → is_known line ≡ true → InOpen (λ parts f u jobs. InsideCame fs at parts f u jobs line one) s
       → InOpen (λ parts f u jobs. InsideCame fs at parts f u jobs line two) s → one ≡ two
   unfolding HaveSetting
   in_open at (Between parts) line one two good known x y = absurd x
-  in_open at (Unfolding parts f u) line one two good known x y = inside_came at parts f u (Prove AtEntry u.frame ∷ []) line one two good.0 (good.1, tt) known x y
-  in_open at (Inside parts f u jobs) line one two good known x y = inside_came at parts f u jobs line one two good.0 good.1 known x y
+  in_open at (Unfolding parts f u) line one two good known x y =
+      inside_came at parts f u (Prove AtEntry u.frame ∷ []) line one two (told parts f u good.0 good.2) good.1 (ap (λ (w : Unfolded). w.frame.setting) good.2, tt) known x y
+  in_open at (Inside parts f u jobs) line one two good known x y = inside_came at parts f u jobs line one two (told parts f u good.0 good.2) good.1 good.3 known x y
 
   one_came : (at : ℕ) (s : State) (line : Line) (one two : Came) → IsGood s → is_known line ≡ true → Comes fs members at s line one → Comes fs members at s line two → one ≡ two
   one_came at s Header one two good known x y = x.1 ∙ sym y.1
@@ -473,14 +531,19 @@ module _ (fs : Functions) (members : List Member) (apart : AreApartMembers membe
 
   accepts_good : (at : ℕ) (s : State) (line : Line) (next : State) → is_known line ≡ true → Accepts fs members at s line next → IsGood s → IsGood next
   unfolding HaveSetting
-  accepts_good at _ _ _ known walk.header good = tt
-  accepts_good at _ _ _ known (walk.function s parts f has free) good = (free.is_listed, refl)
+  accepts_good at _ _ _ known walk.header good = good
+  accepts_good at _ _ _ known (walk.function s parts f has free) good = (among_parts s parts has good, free.is_listed, refl)
   accepts_good at _ _ _ known (walk.inline_code parts f u point node callee new calls is small) good = absurd (cc)
   accepts_good at _ _ _ known (walk.inline_source parts f u path call node callee new calls is small) good = absurd (cc)
-  accepts_good at _ _ _ known (walk.first parts f u one jobs passes) good =
-      (good.0, passes_good (part_of fs parts f u) at f.listed.frame.setting (Prove AtEntry u.frame ∷ []) one jobs known passes (good.1, tt))
-  accepts_good at _ _ _ known (walk.next parts f u jobs more one passes) good = (good.0, passes_good (part_of fs parts f u) at f.listed.frame.setting jobs one more known passes good.1)
-  accepts_good at _ _ _ known (walk.last s parts has none) good = tt
+  accepts_good at _ _ _ known (walk.first parts f u one jobs passes) good = (
+    good.0,
+    good.1,
+    good.2,
+    passes_good (part_of parts f u) at f.listed.frame.setting (Prove AtEntry u.frame ∷ []) one jobs known passes (ap (λ (w : Unfolded). w.frame.setting) good.2, tt),
+  )
+  accepts_good at _ _ _ known (walk.next parts f u jobs more one passes) good =
+      (good.0, good.1, good.2, passes_good (part_of parts f u) at f.listed.frame.setting jobs one more known passes good.3)
+  accepts_good at _ _ _ known (walk.last s parts has none) good = among_parts s parts has good
 
   abbrev IsGoodProgress : Progress → Type 0
   IsGoodProgress (Going at s) = IsGood s
@@ -555,10 +618,10 @@ is_limit p = false
 
 module _ (listed : List Listed) (apart : AreToldApart listed) where
   abbrev Ends : List Line → Progress → Type 0
-  Ends lines p = TakesAll no_functions (map member_of listed) is_known before_all lines p
+  Ends lines p = TakesAll no_functions (members_of listed) is_known before_all lines p
 
   one_of_two : (lines : List Line) (p q : Progress) → Ends lines p → Ends lines q → p ≡ q
-  one_of_two lines p q x y = one_end no_functions (map member_of listed) (apart_members listed apart) before_all p q lines tt x y
+  one_of_two lines p q x y = one_end no_functions (members_of listed) (apart_members listed apart) before_all p q lines (All-nil (Contains (members_of listed))) x y
 
 module _ (listed : List Listed) (bytes : List ℕ) (apart : AreToldApart listed) where
   -- how a certificate of these lines ends
@@ -567,51 +630,51 @@ module _ (listed : List Listed) (bytes : List ℕ) (apart : AreToldApart listed)
       one_of_two listed apart lines p q x (subst (λ (l : List Line). Ends listed apart l q) (one_certificate bytes others lines other is) y)
 
   of_proof : (lines : List Line) → IsProof listed lines → (at : ℕ) × (parts : List Member) × Ends listed apart lines (Going at (Between parts))
-  of_proof lines proves = proves no_functions (map member_of listed) (are_members listed)
+  of_proof lines proves = proves no_functions
 
   of_fault : (lines : List Line) (offset : ℕ) (name : List ℕ) (rule : RuleWord) → IsFault listed lines offset name rule → Ends listed apart lines (Stopped offset name (Breaks rule))
-  of_fault lines offset name rule faulty = faulty no_functions (map member_of listed) (are_members listed)
+  of_fault lines offset name rule faulty = faulty no_functions
 
   of_limit : (lines : List Line) (offset : ℕ) (q : Quantity) → IsLimit listed lines offset q → (name : List ℕ) × Ends listed apart lines (Stopped offset name (AboveLimit q))
-  of_limit lines offset q above_it = above_it no_functions (map member_of listed) (are_members listed)
+  of_limit lines offset q above_it = above_it no_functions
 
-  once : (one two : Outcome) → IsOutcome listed bytes one → IsOutcome listed bytes two → one ≡ two
-  once _ _ (unread offset x) (unread place y) = ap Unread (one_fault bytes offset place x y)
-  once _ _ (unread offset x) (broken lines name place rule is y) = absurd (x.none lines is)
-  once _ _ (unread offset x) (above lines place q is y) = absurd (x.none lines is)
-  once _ _ (unread offset x) (proof lines is y) = absurd (x.none lines is)
-  once _ _ (broken lines name place rule is x) (unread offset y) = absurd (y.none lines is)
-  once _ _ (broken lines name place rule is x) (broken others name2 place2 rule2 other y) =
+  one_outcome : (one two : Outcome) → IsOutcome listed bytes one → IsOutcome listed bytes two → one ≡ two
+  one_outcome _ _ (unread offset x) (unread place y) = ap Unread (one_fault bytes offset place x y)
+  one_outcome _ _ (unread offset x) (broken lines name place rule is y) = absurd (x.none lines is)
+  one_outcome _ _ (unread offset x) (above lines place q is y) = absurd (x.none lines is)
+  one_outcome _ _ (unread offset x) (proof lines is y) = absurd (x.none lines is)
+  one_outcome _ _ (broken lines name place rule is x) (unread offset y) = absurd (y.none lines is)
+  one_outcome _ _ (broken lines name place rule is x) (broken others name2 place2 rule2 other y) =
       ap (λ (p : Progress). Broken (name_in p) (place_in p) (rule_in rule p))
       (ends_so lines others (Stopped place name (Breaks rule)) (Stopped place2 name2 (Breaks rule2)) is other (of_fault lines place name rule x) (of_fault others place2 name2 rule2 y))
-  once _ _ (broken lines name place rule is x) (above others place2 q other y) =
+  one_outcome _ _ (broken lines name place rule is x) (above others place2 q other y) =
       let limit = of_limit others place2 q y in
       absurd (let e = ap is_limit (ends_so lines others (Stopped place name (Breaks rule)) (Stopped place2 limit.0 (AboveLimit q)) is other (of_fault lines place name rule x) limit.1) in cc)
-  once _ _ (broken lines name place rule is x) (proof others other y) =
+  one_outcome _ _ (broken lines name place rule is x) (proof others other y) =
       let proves = of_proof others y in
       absurd (let e = ap is_going (ends_so lines others (Stopped place name (Breaks rule)) (Going proves.0 (Between proves.1)) is other (of_fault lines place name rule x) proves.2) in cc)
-  once _ _ (above lines place q is x) (unread offset y) = absurd (y.none lines is)
-  once _ _ (above lines place q is x) (broken others name2 place2 rule2 other y) =
+  one_outcome _ _ (above lines place q is x) (unread offset y) = absurd (y.none lines is)
+  one_outcome _ _ (above lines place q is x) (broken others name2 place2 rule2 other y) =
       let limit = of_limit lines place q x in
       absurd (let e = ap is_limit (ends_so lines others (Stopped place limit.0 (AboveLimit q)) (Stopped place2 name2 (Breaks rule2)) is other limit.1 (of_fault others place2 name2 rule2 y)) in cc)
-  once _ _ (above lines place q is x) (above others place2 q2 other y) =
+  one_outcome _ _ (above lines place q is x) (above others place2 q2 other y) =
       let one = of_limit lines place q x in
       let two = of_limit others place2 q2 y in
       ap (λ (p : Progress). Above (quantity_in q p))
       (ends_so lines others (Stopped place one.0 (AboveLimit q)) (Stopped place2 two.0 (AboveLimit q2)) is other one.1 two.1)
-  once _ _ (above lines place q is x) (proof others other y) =
+  one_outcome _ _ (above lines place q is x) (proof others other y) =
       let limit = of_limit lines place q x in
       let proves = of_proof others y in
       absurd (let e = ap is_going (ends_so lines others (Stopped place limit.0 (AboveLimit q)) (Going proves.0 (Between proves.1)) is other limit.1 proves.2) in cc)
-  once _ _ (proof lines is x) (unread offset y) = absurd (y.none lines is)
-  once _ _ (proof lines is x) (broken others name2 place2 rule2 other y) =
+  one_outcome _ _ (proof lines is x) (unread offset y) = absurd (y.none lines is)
+  one_outcome _ _ (proof lines is x) (broken others name2 place2 rule2 other y) =
       let proves = of_proof lines x in
       absurd (let e = ap is_going (ends_so lines others (Going proves.0 (Between proves.1)) (Stopped place2 name2 (Breaks rule2)) is other proves.2 (of_fault others place2 name2 rule2 y)) in cc)
-  once _ _ (proof lines is x) (above others place2 q other y) =
+  one_outcome _ _ (proof lines is x) (above others place2 q other y) =
       let proves = of_proof lines x in
       let limit = of_limit others place2 q y in
       absurd (let e = ap is_going (ends_so lines others (Going proves.0 (Between proves.1)) (Stopped place2 limit.0 (AboveLimit q)) is other proves.2 limit.1) in cc)
-  once _ _ (proof lines is x) (proof others other y) = refl
+  one_outcome _ _ (proof lines is x) (proof others other y) = refl
 
 pub one_verdict : HasOneVerdict
-one_verdict listed bytes one two apart x y = once listed bytes apart one two x y
+one_verdict listed bytes one two apart x y = one_outcome listed bytes apart one two x y

@@ -1,13 +1,19 @@
 -- What a line inside a part comes to, by the kind of the line.
-use Rattle.std.proofs.Common.{◌≡◌, ◌≢◌, ◌∙◌, ℕ, zero, suc, ◌<◌, ◌≤◌, Bool, true, false, List, [], ◌∷◌, ◌++◌, length, map, refl, sym, ap, nat_le}
+use Rattle.std.proofs.Common.{◌≡◌, ◌≢◌, ◌∙◌, ℕ, zero, suc, ◌+◌, ◌<◌, ◌≤◌, Bool, true, false, List, [], ◌∷◌, ◌++◌, length, map, refl, sym, ap, nat_le}
 use Rattle.std.proofs.lemmas.Bool.{le-leb, lt-leb}
 use Rattle.memory_spec.specs.Runs.{Run}
 use Rattle.term_core_spec.specs.Term.{Term, not_term}
 use Rattle.term_core_spec.specs.Subterms.{subterm_count}
 use Rattle.term_norm_spec.specs.Normal.{normal}
-use Rattle.proof_tree_spec.specs.Frames.{Frame}
-use Rattle.sim_rules_spec.specs.Obligations.{IsCyclicRule, IsLargeRule}
+use Rattle.proof_tree_spec.specs.declared.Counts.{Counts}
+use Rattle.proof_tree_spec.specs.declared.Nodes.{Nodes}
+use Rattle.proof_tree_spec.specs.declared.Cut.TheVariants.{Calls}
+use Rattle.proof_tree_spec.specs.Cuts.{AreCounts, once}
+use Rattle.proof_tree_spec.specs.Proofs.{Points}
+use Rattle.proof_tree_spec.specs.Frames.{Frame, LetsPass, IsAllowed}
+use Rattle.sim_rules_spec.specs.Obligations.{Rule, IsCyclicRule, IsLargeRule}
 use Rattle.sim_rules_spec.specs.Obligations as rule
+use Rattle.sim_rules_spec.specs.Calls.{Callee}
 use Rattle.tv_limits.specs.declared.TheConstants.{MAX_TERMS, MAX_VARIABLES, MAX_VISITS}
 use Rattle.tv_limits.specs.declared.Quantity.TheVariants as quantity
 use Rattle.clause_check_spec.specs.Clause.{Clause, Cnf}
@@ -16,12 +22,12 @@ use Rattle.clause_check_spec.specs.Step.{Outcome, Follows, Refused, outcome}
 use Rattle.bit_blast_spec.specs.Goal.{cnf_of}
 use Rattle.discharge_spec.specs.Closing.{is_empty, is_truth}
 use Rattle.cert_text_spec.specs.declared.Symbol.{Symbol}
-use Rattle.cert_text_spec.specs.Lines.{Line, Leaf, Case, Relation, Log, LogStep}
+use Rattle.cert_text_spec.specs.Lines.{Line, Leaf, Case, RestrictBinary, RestrictSource, Split, Call, Relation, Log, LogStep}
 use Rattle.cert_check_spec.specs.declared.RuleWord.TheVariants as fault
-use Rattle.cert_check_lines_spec.specs.Sites.{Part}
-use Rattle.cert_check_lines_spec.specs.Jobs.{Origin, opening, Draft, Job, Prove, Relate, Close, InLog}
+use Rattle.cert_check_lines_spec.specs.Sites.{Part, IsBinaryPoint, IsSourcePoint, ArePoints, Calling, ArePaired}
+use Rattle.cert_check_lines_spec.specs.Jobs.{Origin, opening, Draft, OfSplit, OfCall, path_of, Job, Prove, Relate, Close, InLog, reading, pair_of, landing_of}
 use Rattle.cert_check_lines_spec.specs.LineRules as rules
-use Rattle.cert_check_lines_spec.specs.LineRules.{Fault, Breaks, Above, IsRead, Leaves, with_test, Passes, Fails}
+use Rattle.cert_check_lines_spec.specs.LineRules.{Fault, Breaks, Above, IsRead, Leaves, with_test, binary_bounded, source_bounded, mark, HasPart, Crosses, Passes, Fails}
 use Rattle.cert_check_lines_spec.specs.Known.{is_known}
 
 -- a line passes and leaves jobs, or fails, at the line at an offset
@@ -44,6 +50,47 @@ pub data CaseStep (at : ℕ) (origin : Origin) (frame : Frame) (below : List Job
   cases : (test : Term) → IsRead frame frame.start.path symbols test
       → CaseStep at origin frame below symbols (Goes (Prove origin (with_test frame test) ∷ Prove origin (with_test frame (not_term test)) ∷ below))
   no_test : ((test : Term) → IsRead frame frame.start.path symbols test → ⊥) → CaseStep at origin frame below symbols (Stops at (Breaks fault.Sort))
+
+-- `restrict`, at a point of a side: the rule there, and the frame that is left
+pub data RestrictStep (p : Part) (at : ℕ) (origin : Origin) (frame : Frame) (below : List Job) (IsPoint : ℕ → Type 0) (r : ℕ → Rule) (bounded : ℕ → Frame) (count : ℕ) : Step → Type 0 where
+  restricts : (node : ℕ) (terms : List Term) → IsPoint node → 1 ≤ count → Leaves p origin frame (r node) terms
+      → RestrictStep p at origin frame below IsPoint r bounded count (Goes (map Close terms ++ Prove origin (bounded node) ∷ below))
+  restricts_nowhere : ((node : ℕ) → IsPoint node → ⊥) → RestrictStep p at origin frame below IsPoint r bounded count (Stops at (Breaks fault.Point))
+  restricts_nothing : (node : ℕ) → IsPoint node → count ≡ 0 → RestrictStep p at origin frame below IsPoint r bounded count (Stops at (Breaks fault.Count))
+  restricts_cycle : (node other : ℕ) → IsPoint node → 1 ≤ count → IsCyclicRule (opening p origin) frame (r node) other
+      → RestrictStep p at origin frame below IsPoint r bounded count (Stops at (Breaks fault.Cyclic))
+  restricts_many : (node visits : ℕ) → IsPoint node → 1 ≤ count → ((other : ℕ) → IsCyclicRule (opening p origin) frame (r node) other → ⊥)
+      → IsLargeRule (opening p origin) frame MAX_VISITS (r node) visits → RestrictStep p at origin frame below IsPoint r bounded count (Stops at (Above quantity.Visits))
+
+-- `split`
+pub data SplitStep (p : Part) (at : ℕ) (origin : Origin) (frame : Frame) (below : List Job) (points : Points) (enter step : Counts) (relations : ℕ) : Step → Type 0 where
+  splits : (nodes : Nodes) → ArePoints p frame points nodes → AreCounts enter → AreCounts step → LetsPass frame nodes
+      → SplitStep p at origin frame below points enter step relations (Goes (reading p origin frame (OfSplit nodes points.source.path enter step) [] relations ++ below))
+  splits_nowhere : ((nodes : Nodes) → ArePoints p frame points nodes → ⊥) → SplitStep p at origin frame below points enter step relations (Stops at (Breaks fault.Point))
+  splits_nothing : (nodes : Nodes) → ArePoints p frame points nodes → (AreCounts enter → AreCounts step → ⊥)
+      → SplitStep p at origin frame below points enter step relations (Stops at (Breaks fault.Count))
+  splits_passed : (nodes : Nodes) → ArePoints p frame points nodes → AreCounts enter → AreCounts step → (LetsPass frame nodes → ⊥)
+      → SplitStep p at origin frame below points enter step relations (Stops at (Breaks fault.Passed))
+
+-- `call`
+pub data CallStep (p : Part) (at : ℕ) (origin : Origin) (frame : Frame) (below : List Job) (points : Points) (counts : Counts) (before later : ℕ) : Step → Type 0 where
+  calls : (call : Nodes) (binary source : Calling) (callee : Callee) → Crosses p frame points counts call binary source callee
+      → CallStep p at origin frame below points counts before later
+      (Goes (reading p origin frame (OfCall call (landing_of binary source) points.source.path (pair_of binary source) callee before) [] (before + later) ++ below))
+  calls_nowhere : ((call : Nodes) (binary source : Calling) → ArePaired p frame points call binary source → ⊥)
+      → CallStep p at origin frame below points counts before later (Stops at (Breaks fault.Point))
+  calls_often : (call : Nodes) (binary source : Calling) → ArePaired p frame points call binary source → counts ≢ once
+      → CallStep p at origin frame below points counts before later (Stops at (Breaks fault.Count))
+  calls_unknown : (call : Nodes) (binary source : Calling) → ArePaired p frame points call binary source → counts ≡ once → ((callee : Callee) → HasPart p source callee → ⊥)
+      → CallStep p at origin frame below points counts before later (Stops at (Breaks fault.Callee))
+  calls_passed : (call : Nodes) (binary source : Calling) (callee : Callee) → ArePaired p frame points call binary source → counts ≡ once → HasPart p source callee
+      → (IsAllowed frame (Calls call (landing_of binary source)) → ⊥) → CallStep p at origin frame below points counts before later (Stops at (Breaks fault.Passed))
+
+-- `rel TERM`
+pub data RelationStep (p : Part) (at : ℕ) (origin : Origin) (frame : Frame) (draft : Draft) (lines : List Term) (left : ℕ) (below : List Job) (symbols : List Symbol) : Step → Type 0 where
+  relates : (t : Term) → IsRead frame (path_of draft) symbols t
+      → RelationStep p at origin frame draft lines left below symbols (Goes (reading p origin frame draft (lines ++ t ∷ []) left ++ below))
+  no_line : ((t : Term) → IsRead frame (path_of draft) symbols t → ⊥) → RelationStep p at origin frame draft lines left below symbols (Stops at (Breaks fault.Sort))
 
 -- where a proof of a frame is expected
 pub record OnProof (P : Origin → Frame → List Job → Type 0) (jobs : List Job) : Type 0 where
@@ -105,14 +152,9 @@ pub record OnLog (at : ℕ) (jobs : List Job) (one : Given) (step : Step) : Type
   pub is : step ≡ step_comes at offset variables so_far left below one
 
 -- where a line of a relation is
-pub record OnRelation (jobs : List Job) : Type 0 where
-  pub origin : Origin
-  pub frame : Frame
-  pub draft : Draft
-  pub lines : List Term
-  pub left : ℕ
-  pub below : List Job
-  pub top : jobs ≡ Relate origin frame draft lines left ∷ below
+abbrev pub OnRelation : Part → (at : ℕ) → List Symbol → Step → List Job → Type 0
+OnRelation p at symbols step (Relate origin frame draft lines left ∷ below) = RelationStep p at origin frame draft lines left below symbols step
+OnRelation p at symbols step jobs = ⊥
 
 -- what a line of a rule that is checked comes to before these jobs
 abbrev pub Means : Part → (at : ℕ) → List Job → Line → Step → Type 0
@@ -120,7 +162,15 @@ Means p at jobs (Leaf logs) step = OnProof (λ origin frame below. LeafStep p at
 Means p at jobs (Case symbols) step = OnProof (λ origin frame below. CaseStep at origin frame below symbols step) jobs
 Means p at jobs (Log steps) step = OnGoal p at jobs steps step
 Means p at jobs (LogStep one) step = OnLog at jobs one step
-Means p at jobs (Relation t) step = OnRelation jobs
+Means p at jobs (RestrictBinary point count) step =
+    OnProof (λ origin frame below.
+    RestrictStep p at origin frame below (IsBinaryPoint p frame point) (λ node. rule.RestrictBinary (mark node count)) (λ node. binary_bounded frame (mark node count)) count step) jobs
+Means p at jobs (RestrictSource point count) step =
+    OnProof (λ origin frame below.
+    RestrictStep p at origin frame below (IsSourcePoint p frame point) (λ node. rule.RestrictSource (mark node count)) (λ node. source_bounded frame (mark node count)) count step) jobs
+Means p at jobs (Split points enter step relations) came = OnProof (λ origin frame below. SplitStep p at origin frame below points enter step relations came) jobs
+Means p at jobs (Call points counts before later) step = OnProof (λ origin frame below. CallStep p at origin frame below points counts before later step) jobs
+Means p at jobs (Relation t) step = OnRelation p at t step jobs
 Means p at jobs other step = is_known other ≡ false
 
 -- ---- from the rules
@@ -178,12 +228,15 @@ module _ (p : Part) (at : ℕ) where
   pub passes_means : (jobs : List Job) (line : Line) (more : List Job) → is_known line ≡ true → Passes p at jobs line more → Means p at jobs line (Goes more)
   passes_means _ _ _ known (rules.leaf origin f jobs terms are) = record { origin = origin; frame = f; below = jobs; top = refl; holds = leaves terms are refl }
   passes_means _ _ _ known (rules.case origin f jobs symbols test is) = record { origin = origin; frame = f; below = jobs; top = refl; holds = cases test is }
-  passes_means _ _ _ known (rules.restrict_binary origin f jobs point node count terms is some are) = absurd (cc)
-  passes_means _ _ _ known (rules.restrict_source origin f jobs point node count terms is some are) = absurd (cc)
-  passes_means _ _ _ known (rules.split origin f jobs points nodes enter step relations are enters steps lets) = absurd (cc)
-  passes_means _ _ _ known (rules.call origin f jobs points counts before later call binary source callee crosses) = absurd (cc)
-  passes_means _ _ _ known (rules.relation origin f draft lines left jobs symbols t is) =
-      record { origin = origin; frame = f; draft = draft; lines = lines; left = left; below = jobs; top = refl }
+  passes_means _ _ _ known (rules.restrict_binary origin f jobs point node count terms is some are) =
+      record { origin = origin; frame = f; below = jobs; top = refl; holds = restricts node terms is some are }
+  passes_means _ _ _ known (rules.restrict_source origin f jobs point node count terms is some are) =
+      record { origin = origin; frame = f; below = jobs; top = refl; holds = restricts node terms is some are }
+  passes_means _ _ _ known (rules.split origin f jobs points nodes enter step relations are enters steps lets) =
+      record { origin = origin; frame = f; below = jobs; top = refl; holds = splits nodes are enters steps lets }
+  passes_means _ _ _ known (rules.call origin f jobs points counts before later call binary source callee crosses) =
+      record { origin = origin; frame = f; below = jobs; top = refl; holds = calls call binary source callee crosses }
+  passes_means _ _ _ known (rules.relation origin f draft lines left jobs symbols t is) = relates t is
   passes_means _ _ _ known (rules.no_log goal jobs small plain) = record { goal = goal; below = jobs; top = refl; is = closes_at p.runs at goal jobs small plain }
   passes_means _ _ _ known (rules.log goal jobs left small few) = record { goal = goal; below = jobs; top = refl; is = opens_at p.runs at goal jobs left small few }
   passes_means _ _ _ known (rules.step offset variables clauses left jobs one follows) = record {
@@ -211,23 +264,37 @@ module _ (p : Part) (at : ℕ) where
       record { origin = origin; frame = f; below = jobs; top = refl; holds = too_many count acyclic large }
   fails_means _ _ _ _ known (rules.leaf_logs origin f jobs logs terms are apart) = record { origin = origin; frame = f; below = jobs; top = refl; holds = other_logs terms are apart }
   fails_means _ _ _ _ known (rules.case_sort origin f jobs symbols none) = record { origin = origin; frame = f; below = jobs; top = refl; holds = no_test none }
-  fails_means _ _ _ _ known (rules.binary_point origin f jobs point count none) = absurd (cc)
-  fails_means _ _ _ _ known (rules.binary_count origin f jobs point node is) = absurd (cc)
-  fails_means _ _ _ _ known (rules.binary_cyclic origin f jobs point node count other is some cyclic) = absurd (cc)
-  fails_means _ _ _ _ known (rules.binary_visits origin f jobs point node count visits is some acyclic large) = absurd (cc)
-  fails_means _ _ _ _ known (rules.source_point origin f jobs point count none) = absurd (cc)
-  fails_means _ _ _ _ known (rules.source_count origin f jobs point node is) = absurd (cc)
-  fails_means _ _ _ _ known (rules.source_cyclic origin f jobs point node count other is some cyclic) = absurd (cc)
-  fails_means _ _ _ _ known (rules.source_visits origin f jobs point node count visits is some acyclic large) = absurd (cc)
-  fails_means _ _ _ _ known (rules.split_point origin f jobs points enter step relations none) = absurd (cc)
-  fails_means _ _ _ _ known (rules.split_count origin f jobs points nodes enter step relations are bad) = absurd (cc)
-  fails_means _ _ _ _ known (rules.split_passed origin f jobs points nodes enter step relations are enters steps bad) = absurd (cc)
-  fails_means _ _ _ _ known (rules.call_point origin f jobs points counts before later none) = absurd (cc)
-  fails_means _ _ _ _ known (rules.call_count origin f jobs points counts before later call binary source paired bad) = absurd (cc)
-  fails_means _ _ _ _ known (rules.call_callee origin f jobs points before later call binary source paired none) = absurd (cc)
-  fails_means _ _ _ _ known (rules.call_passed origin f jobs points before later call binary source callee paired has bad) = absurd (cc)
-  fails_means _ _ _ _ known (rules.relation_sort origin f draft lines left jobs symbols none) =
-      record { origin = origin; frame = f; draft = draft; lines = lines; left = left; below = jobs; top = refl }
+  fails_means _ _ _ _ known (rules.binary_point origin f jobs point count none) =
+      record { origin = origin; frame = f; below = jobs; top = refl; holds = restricts_nowhere none }
+  fails_means _ _ _ _ known (rules.binary_count origin f jobs point node is) =
+      record { origin = origin; frame = f; below = jobs; top = refl; holds = restricts_nothing node is refl }
+  fails_means _ _ _ _ known (rules.binary_cyclic origin f jobs point node count other is some cyclic) =
+      record { origin = origin; frame = f; below = jobs; top = refl; holds = restricts_cycle node other is some cyclic }
+  fails_means _ _ _ _ known (rules.binary_visits origin f jobs point node count visits is some acyclic large) =
+      record { origin = origin; frame = f; below = jobs; top = refl; holds = restricts_many node visits is some acyclic large }
+  fails_means _ _ _ _ known (rules.source_point origin f jobs point count none) =
+      record { origin = origin; frame = f; below = jobs; top = refl; holds = restricts_nowhere none }
+  fails_means _ _ _ _ known (rules.source_count origin f jobs point node is) =
+      record { origin = origin; frame = f; below = jobs; top = refl; holds = restricts_nothing node is refl }
+  fails_means _ _ _ _ known (rules.source_cyclic origin f jobs point node count other is some cyclic) =
+      record { origin = origin; frame = f; below = jobs; top = refl; holds = restricts_cycle node other is some cyclic }
+  fails_means _ _ _ _ known (rules.source_visits origin f jobs point node count visits is some acyclic large) =
+      record { origin = origin; frame = f; below = jobs; top = refl; holds = restricts_many node visits is some acyclic large }
+  fails_means _ _ _ _ known (rules.split_point origin f jobs points enter step relations none) =
+      record { origin = origin; frame = f; below = jobs; top = refl; holds = splits_nowhere none }
+  fails_means _ _ _ _ known (rules.split_count origin f jobs points nodes enter step relations are bad) =
+      record { origin = origin; frame = f; below = jobs; top = refl; holds = splits_nothing nodes are bad }
+  fails_means _ _ _ _ known (rules.split_passed origin f jobs points nodes enter step relations are enters steps bad) =
+      record { origin = origin; frame = f; below = jobs; top = refl; holds = splits_passed nodes are enters steps bad }
+  fails_means _ _ _ _ known (rules.call_point origin f jobs points counts before later none) =
+      record { origin = origin; frame = f; below = jobs; top = refl; holds = calls_nowhere none }
+  fails_means _ _ _ _ known (rules.call_count origin f jobs points counts before later call binary source paired bad) =
+      record { origin = origin; frame = f; below = jobs; top = refl; holds = calls_often call binary source paired bad }
+  fails_means _ _ _ _ known (rules.call_callee origin f jobs points before later call binary source paired none) =
+      record { origin = origin; frame = f; below = jobs; top = refl; holds = calls_unknown call binary source paired refl none }
+  fails_means _ _ _ _ known (rules.call_passed origin f jobs points before later call binary source callee paired has bad) =
+      record { origin = origin; frame = f; below = jobs; top = refl; holds = calls_passed call binary source callee paired refl has bad }
+  fails_means _ _ _ _ known (rules.relation_sort origin f draft lines left jobs symbols none) = no_line none
   fails_means _ _ _ _ known (rules.terms goal jobs count more) = record { goal = goal; below = jobs; top = refl; is = many_terms p.runs at goal jobs count more }
   fails_means _ _ _ _ known (rules.variables goal jobs count small needed more) =
       record { goal = goal; below = jobs; top = refl; is = many_variables p.runs at goal jobs count small needed more }

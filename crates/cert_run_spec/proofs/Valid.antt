@@ -26,12 +26,12 @@ use Rattle.cert_text_spec.specs.Lines.{Line}
 use Rattle.cert_check_spec.specs.Verdict.{Listed}
 use Rattle.cert_check_lines_spec.specs.Known.{IsProof}
 use Rattle.validity_laws.specs.Closed.{IsClosedGoal, IsClosed, leaf}
-use Rattle.validity_laws.specs.CheckStatements.{AreLines, listed_of, IsFile, AreFunctions}
+use Rattle.validity_laws.specs.CheckStatements.{AreLines, listed_of, IsFile, AreFunctions, AreAtNames}
 use Rattle.validity_laws.proofs.CheckFunctions.{closed_is_valid}
 use Rattle.validity_laws.proofs.Proved.{proofs_give_validity}
 use Rattle.validity_laws.specs.Laws.{IsSorted}
 use Rattle.validity_laws.proofs.Truths.{have_truths}
-use Rattle.cert_run_spec.specs.Files.{sides_of}
+use Rattle.cert_run_spec.specs.Files.{firsts_of, sides_of}
 use Rattle.prove_run_spec.specs.Proofs.{AreClosedBy}
 use Rattle.cert_run_spec.specs.Verdict.{proof}
 use Rattle.cert_run_spec.specs.Laws.{AreOfFiles, ListedAreSorted, ProofsAreValid, LoggedLeavesAreValid}
@@ -49,6 +49,9 @@ is_some_by o x is = subst IsSome (sym is) refl
 module _ (image : Image) (unit : Typed) (list : List (List ℕ)) (pairs : outcome.Pairs) (listed : List Listed) (of : AreOfFiles image unit list pairs listed) where
   abbrev q : Pair
   q = sides_of image unit of.are.runs pairs.entries of.are.sides
+
+  abbrev firsts : List (List (ℕ × ℕ))
+  firsts = firsts_of of.are.sides
 
   abbrev functions : List Function
   functions = of.are.functions
@@ -147,8 +150,11 @@ module _ (image : Image) (unit : Typed) (list : List (List ℕ)) (pairs : outcom
       there : (k : ℕ) (d : Function) → k < length functions → Contains functions (get_or functions k d)
       there k d below = (k, below, get_or_default functions k (get_or functions k d) d below)
 
+  all_named : AreAtNames q functions
+  all_named k d below = (let g = get_or functions k d in named g (pair g (k, below, get_or_default functions k g d below)))
+
   all_sorted : All IsSorted listed
-  all_sorted = subst (All IsSorted) (sym of.are.listed_are) (have_truths q functions sides file are_functions)
+  all_sorted = subst (All IsSorted) (sym of.are.listed_are) (have_truths q firsts functions sides file are_functions)
 
   abbrev IsValidHere : Listed → Type 0
   IsValidHere f = IsValid image unit f.name f.stack
@@ -156,20 +162,19 @@ module _ (image : Image) (unit : Typed) (list : List (List ℕ)) (pairs : outcom
   all_valid : (lines : List Line) → AreLines lines → IsProof listed lines → All IsValidHere listed
   all_valid lines spelled proves =
       subst (All IsValidHere) (sym of.are.listed_are)
-      (All-map IsValidHere (listed_of q) functions
+      (All-map IsValidHere (listed_of q firsts) functions
       (λ k d below.
       (let g = get_or functions k d in
       let among : Contains functions g = (k, below, get_or_default functions k g d below) in
-      let p = pair g among in
-      proofs_give_validity q functions lines sides file are_functions spelled (subst (λ (l : List Listed). IsProof l lines) of.are.listed_are proves) g among (named g p)
-      (stack_there g p))))
+      proofs_give_validity q firsts functions lines sides file are_functions all_named spelled (subst (λ (l : List Listed). IsProof l lines) of.are.listed_are proves) g among
+      (stack_there g (pair g among)))))
 
   closed_valid : (f : Listed) → Contains listed f → IsClosed f f.frame → IsValidHere f
   closed_valid f among has =
-      let (g, inside, same) = mapped_from (listed_of q) functions f (subst (λ (l : List Listed). Contains l f) of.are.listed_are among) in
+      let (g, inside, same) = mapped_from (listed_of q firsts) functions f (subst (λ (l : List Listed). Contains l f) of.are.listed_are among) in
       let p = pair g inside in
-      let closed : IsClosed (listed_of q g) (listed_of q g).frame = subst (λ (h : Listed). IsClosed h h.frame) (sym same) has in
-      subst IsValidHere same (closed_is_valid q g sides file (is_function g p) (small g p) closed (named g p) (stack_there g p))
+      let closed : IsClosed (listed_of q firsts g) (listed_of q firsts g).frame = subst (λ (h : Listed). IsClosed h h.frame) (sym same) has in
+      subst IsValidHere same (closed_is_valid q firsts g sides file (is_function g p) (small g p) closed (named g p) (stack_there g p))
 
 pub listed_are_sorted : ListedAreSorted
 listed_are_sorted image unit list pairs listed of = all_sorted image unit list pairs listed of

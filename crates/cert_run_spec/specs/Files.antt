@@ -38,6 +38,10 @@ AreSides image entries left sides = ⊥
 abbrev pub no_side : CodeSide
 no_side = record { graph = empty; firsts = [] }
 
+-- by the numbers of the graphs, the first nodes of the instructions
+abbrev pub firsts_of : List CodeSide → List (List (ℕ × ℕ))
+firsts_of sides = map (λ (side : CodeSide). side.firsts) sides
+
 abbrev pub firsts_at : (entries : List ℕ) → List CodeSide → (entry : ℕ) → List (ℕ × ℕ)
 firsts_at entries sides entry = (get_or sides (number_in entries entry) no_side).firsts
 
@@ -84,7 +88,7 @@ pub record AreListed (image : Image) (unit : Typed) (pairs : outcome.Pairs) (lis
   pub sides_are : AreSides image pairs.entries pairs.entries sides
   pub functions : List Function
   pub functions_are : AreFunctionsOf unit pairs.functions functions
-  pub listed_are : listed ≡ map (listed_of (sides_of image unit runs pairs.entries sides)) functions
+  pub listed_are : listed ≡ map (listed_of (sides_of image unit runs pairs.entries sides) (firsts_of sides)) functions
 
 -- ---- numbers of a file
 

@@ -27,9 +27,10 @@ ListsHaveOnePairing = (image : Image) (unit : Typed) (list : List (List ℕ)) (o
 abbrev pub FilesHaveOneList : Type 0
 FilesHaveOneList = (image : Image) (unit : Typed) (pairs : outcome.Pairs) (one two : List Listed) → AreListed image unit pairs one → AreListed image unit pairs two → one ≡ two
 
--- listed functions have names of their own, and the bodies of each are told apart
+-- listed functions have names and graphs of the source of their own, and the bodies of each are told apart
 pub record AreToldApart (listed : List Listed) : Type 0 where
   pub by_name : (f g : Listed) → Contains listed f → Contains listed g → f.name ≡ g.name → f ≡ g
+  pub by_number : (f g : Listed) → Contains listed f → Contains listed g → f.frame.source.outermost ≡ g.frame.source.outermost → f ≡ g
   pub bodies : All (λ (f : Listed). AreApart f.frame.setting.bodies) listed
 
 abbrev pub FunctionsAreToldApart : Type 0

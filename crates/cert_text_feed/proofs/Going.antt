@@ -136,13 +136,14 @@ ended piece rest n h o =
     record { front = rest ++ h.0; is = ap (λ t. rest ++ t) h.1 ∙ sym (append_assoc rest h.0 (10 ∷ [])); unended = open-append rest h.0 o h.2 }
 
 pub gives_line : (bytes : List ℕ) (lines : List spec.Line) (piece front left text kept : List ℕ) (one : TextLine) (start : ℕ) (stack_old stack_new : List Group) (old new : Progress) → IsGoing bytes lines old
-    → length bytes + length front ≤ MAX_CERTIFICATE_BYTES → piece ≡ front ++ left → text ≡ old.rest ++ front → EndsOnce text → start ≡ old.taken - length old.rest
+    → length bytes + length front ≤ MAX_CERTIFICATE_BYTES → piece ≡ front ++ left → 0 < length front → text ≡ old.rest ++ front → EndsOnce text → start ≡ old.taken - length old.rest
     → IsGiven start text kept stack_old stack_new one → stack_of stack_old ≡ old.expected → new.expected ≡ stack_of stack_new → new.rest ≡ kept → new.taken ≡ old.taken + length front → new.fault ≡ None
     → GivesLine bytes lines one piece left new
-gives_line bytes lines piece front left text kept one start stack_old stack_new old new g within cut is ends begin given_one was e r t f =
+gives_line bytes lines piece front left text kept one start stack_old stack_new old new g within cut some is ends begin given_one was e r t f =
     record {
       front = front;
       cut = cut;
+      some = some;
       placed = record { offset = given_one.offset ∙ at_start; literals = p.literals; hints = p.hints };
       fed = fed (bytes ++ front) (lines ++ line_in one ∷ []) new None f
           (record {
@@ -230,7 +231,8 @@ pub gives_at : (bytes : List ℕ) (lines : List spec.Line) (piece : List ℕ) (n
     → GivesLine bytes lines one piece (take (length piece - n) (drop n piece)) new
 gives_at bytes lines piece n text kept one start stack_old stack_new old new g within h is begin given_one was e r t f =
     let long : length (take n piece) ≡ n = length-take-le n piece h.3 in
-    gives_line bytes lines piece (take n piece) (take (length piece - n) (drop n piece)) text kept one start stack_old stack_new old new g (omega (arith, within, long)) (piece_cut piece n) is
+    gives_line bytes lines piece (take n piece) (take (length piece - n) (drop n piece)) text kept one start stack_old stack_new old new g (omega (arith, within, long)) (piece_cut piece n)
+    (omega (arith, ap length h.1, length-append h.0 (10 ∷ []))) is
     (subst EndsOnce (sym is) (ended piece old.rest n h g.reading.unended)) begin given_one was e r
     (added_small old.taken n new.taken t (omega (arith, within, g.counted)) ∙ ap (λ k. old.taken + k) (sym long)) f
 

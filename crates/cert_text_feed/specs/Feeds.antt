@@ -59,6 +59,7 @@ pub record IsPlaced (lines : List spec.Line) (one : TextLine) : Type 0 where
 pub record GivesLine (bytes : List ℕ) (lines : List spec.Line) (one : TextLine) (piece left : List ℕ) (new : Progress) : Type 0 where
   pub front : List ℕ
   pub cut : piece ≡ front ++ left
+  pub some : 0 < length front
   pub placed : IsPlaced lines one
   pub fed : IsFed (bytes ++ front) (lines ++ line_in one ∷ []) new
   pub going : new.fault ≡ None

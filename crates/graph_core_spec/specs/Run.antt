@@ -1,5 +1,5 @@
 -- The run of a set of graphs, with a stack of waiting frames.
-use Rattle.std.specs.Prelude.{◌≡◌, ◌⊎◌, ℕ, ◌==◌, ◌&&◌, ◌||◌, Bool, true, false, if◌then◌else◌, is_some, List, [], ◌∷◌, ◌++◌, Option, Some, None, slice_get}
+use Rattle.std.specs.Prelude.{◌≡◌, ◌⊎◌, ℕ, ◌==◌, nat_lt, ◌&&◌, ◌||◌, Bool, true, false, if◌then◌else◌, is_some, List, [], ◌∷◌, ◌++◌, Option, Some, None, slice_get}
 use Rattle.term_core_spec.specs.declared.Variable.{Variable}
 use Rattle.term_core_spec.specs.declared.Family.{Family}
 use Rattle.term_core_spec.specs.declared.Family.TheVariants as family
@@ -19,10 +19,18 @@ abbrev pub is_register : Family → Bool
 is_register family.Register = true
 is_register f = false
 
--- memory and the machine's registers exist once, for caller and callee alike; every other variable belongs to the
--- frame of its function
+abbrev pub is_further : Family → Bool
+is_further family.Further = true
+is_further f = false
+
+-- the ends of the barred zone: of the further words, which only graphs of C have, the first two
+abbrev pub is_zone_end : Variable → Bool
+is_zone_end v = is_further v.family && nat_lt v.index 2
+
+-- memory, the machine's registers and the ends of the barred zone exist once, for caller and callee alike; every other
+-- variable belongs to the frame of its function
 abbrev pub is_shared : Variable → Bool
-is_shared v = is_memory v.sort || is_register v.family
+is_shared v = is_memory v.sort || (is_register v.family || is_zone_end v)
 
 -- what a function's own variable holds before it is bound
 abbrev pub unset : Sort → Value

@@ -61,6 +61,12 @@ own_bindings (Basic bindings next) = bindings
 own_bindings (Cond test on_true on_false) = []
 own_bindings (Call callee inputs outputs landing) = outputs
 
+-- what it binds in any frame
+abbrev pub all_bindings : Node → List Binding
+all_bindings (Basic bindings next) = bindings
+all_bindings (Cond test on_true on_false) = []
+all_bindings (Call callee inputs outputs landing) = inputs ++ outputs
+
 -- no node binds a variable of the family in its own function's frame
 abbrev pub NeverBinds : Graph → Family → Type 0
 NeverBinds g family = All (λ node. All (λ b. b.variable.family ≢ family) (own_bindings node)) g.nodes

@@ -9,13 +9,20 @@ ghost use Rattle.graph_inline.specs.Taken.{named_variable, over};
 use term_bank::{TermId, TermNode};
 use term_core_spec::{Atom, Family, Sort, Variable};
 
-/// Whether caller and callee share a variable: a memory or a register.
+/// How many further words are ends of the zone: the first ones.
+const ZONE_ENDS: usize = 2;
+
+/// Whether caller and callee share a variable: a memory, a register or an end of the zone.
 pub(crate) fn is_shared(variable: Variable) -> bool
     ensures { result ≡ run.is_shared variable }
 {
     match variable.sort {
         Sort::Memory => true,
-        Sort::Truth | Sort::Word(_) => matches!(variable.family, Family::Register),
+        Sort::Truth | Sort::Word(_) => match variable.family {
+            Family::Register => true,
+            Family::Further => variable.index < ZONE_ENDS,
+            _ => false,
+        },
     }
 }
 

@@ -79,11 +79,11 @@ module _ (instance other : ℕ) (apart : other ≢ instance) where
 
   body_speaks : (first last : ℕ) (node : Node) → SpeaksOf (IsElsewhere other) (inlined_node instance first last node)
   body_speaks first last (Basic bindings to) =
-      All-map Speaks (inlined_binding instance) bindings (λ k d less. (name_is_elsewhere _, term_is_elsewhere _))
+      All-map Speaks (inlined_binding instance) bindings (λ k d less. (name_is_elsewhere (get_or bindings k d).variable, term_is_elsewhere _))
   body_speaks first last (Cond test on_true on_false) = term_is_elsewhere test
   body_speaks first last (Call callee inputs outputs landing) = (
     All-map (λ b. TermSpeaksOf (IsElsewhere other) b.term) (with_inlined_term instance) inputs (λ k d less. term_is_elsewhere _),
-    All-map (λ b. IsElsewhere other b.variable) (with_inlined_variable instance) outputs (λ k d less. name_is_elsewhere _),
+    All-map (λ b. IsElsewhere other b.variable) (with_inlined_variable instance) outputs (λ k d less. name_is_elsewhere (get_or outputs k d).variable),
   )
 
 pub stays_fresh : (caller : Graph) (n : ℕ) (callee : Graph) (own : List Variable) (instance : ℕ) → CanInline caller n callee own instance → (result : Graph)

@@ -1,5 +1,5 @@
 -- A graph with a call inlined is valid.
-use Rattle.std.proofs.Common.{◌≡◌, ◌≢◌, ◌↔◌, ◌∙◌, ℕ, ◌+◌, ◌≤◌, suc, Bool, true, false, if◌then◌else◌, refl, sym, ap, subst, arith, List, [], ◌∷◌, ◌++◌, map, length, filter, All, Option, Some, None}
+use Rattle.std.proofs.Common.{◌≡◌, ◌≢◌, ◌↔◌, ◌∙◌, ℕ, ◌+◌, ◌≤◌, suc, Bool, true, false, if◌then◌else◌, refl, sym, ap, subst, arith, List, [], ◌∷◌, ◌++◌, map, length, get_or, filter, All, Option, Some, None}
 use Rattle.std.specs.Prelude.{slice_get, slice_set}
 use Rattle.std.proofs.lemmas.List.{length-set, length-append}
 use Rattle.std.proofs.lemmas.List.Elements.{All-head, All-tail, All-weaker, All-map, All-filter, All-append, All-set, All-cons, All-nil}
@@ -91,7 +91,7 @@ module _ (instance : ℕ) where
       All-append IsBinding (filter (λ (b : Binding). is_shared b.variable) inputs) (map (start_binding instance inputs) own)
       (All-filter (λ (b : Binding). is_shared b.variable) IsBinding inputs are)
       (All-map IsBinding (start_binding instance inputs) own
-      (λ k d less. start_sort inputs _ are ∙ ap (λ (s : Sort). Some s) (sym (name_sort instance _))))
+      (λ k d less. start_sort inputs _ are ∙ ap (λ (s : Sort). Some s) (sym (name_sort instance (get_or own k d)))))
 
 -- ---- nodes
 

@@ -1,5 +1,5 @@
 -- A set of graphs with a further graph beside it: the graphs of the set go on to call each other, and none of them calls it.
-use Rattle.std.specs.Prelude.{ℕ, suc, List, [], ◌∷◌, ◌++◌, length}
+use Rattle.std.specs.Prelude.{ℕ, suc, [], ◌∷◌, ◌++◌, length}
 use Rattle.graph_core_spec.specs.declared.Next.TheVariants as next
 use Rattle.graph_core_spec.specs.Graph.{Basic, Graph, Graphs}
 

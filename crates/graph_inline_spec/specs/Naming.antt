@@ -6,7 +6,8 @@ use Rattle.term_core_spec.specs.Substitution.{renamed, at_instance}
 use Rattle.graph_core_spec.specs.Graph.{Binding}
 use Rattle.graph_core_spec.specs.Run.{is_shared}
 
--- a callee's own variable belongs to the instance; memory and registers exist once, and keep their names
+-- a callee's own variable belongs to the instance; memory, registers and the ends of the zone exist once, and keep their
+-- names
 abbrev pub inlined_variable : (instance : ℕ) → Variable → Variable
 inlined_variable instance v = if is_shared v then v else at_instance instance v
 

@@ -1,4 +1,5 @@
 pub mod Loops
+pub mod Cycles
 pub mod Inlining
 pub mod Choices
 pub mod Shapes

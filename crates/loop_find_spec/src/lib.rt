@@ -7,6 +7,7 @@
 //! run.
 #![tactic(auto)]
 
+pub mod laws;
 pub mod samples;
 
 /// Which calls are inlined.

@@ -18,7 +18,7 @@ use Rattle.term_bank.proofs.Growth.{held}
 use Rattle.term_bank.proofs.Substitution.{is_at}
 use Rattle.term_substitution.specs.States.{tree_or, AreBelow}
 use Rattle.graph_core_spec.specs.Graph.{Binding}
-use Rattle.graph_core_spec.specs.Run.{is_shared, is_register}
+use Rattle.graph_core_spec.specs.Run.{is_shared, is_register, is_zone_end}
 use Rattle.path_cond.specs.States.{IsMapOf}
 use Rattle.sim_rules_spec.specs.Calls.{CallPair, unset_or, entered_terms, is_entry, binary_begins, source_begins}
 use Rattle.sim_rules_spec.specs.Points.{Convention, binary_memory, zone_memory, is_binary, is_source}
@@ -120,7 +120,7 @@ module _ (trees : List Term) (zeros : Zeros) (are_zeros : AreZeros trees zeros) 
     pub entered_is : (v : Variable) → tree_or trees (entered_id bound before zeros v) (open_term v) ≡ entered_terms bindings s v
     entered_is v =
         or_tree trees (bound v) (if is_shared v then before v else zero_id zeros v.sort) (open_term v)
-        ∙ ap (tree_or trees (bound v)) (other_is v.sort (is_register v.family) (before v) (open_term v) (s v) (is.current v))
+        ∙ ap (tree_or trees (bound v)) (other_is v.sort (is_register v.family || is_zone_end v) (before v) (open_term v) (s v) (is.current v))
         ∙ are.given (λ w. if is_shared w then s w else unset_or w.sort (s w)) v
 
 -- ---- the binary's memory

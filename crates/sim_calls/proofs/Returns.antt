@@ -8,6 +8,7 @@ use Rattle.term_core_spec.specs.declared.Family.{Family}
 use Rattle.term_core_spec.specs.declared.Family.TheVariants as family
 use Rattle.term_core_spec.specs.declared.Variable.{Variable}
 use Rattle.term_core_spec.specs.Same.{same_variable}
+use Rattle.term_core_spec.specs.Sort.{is_memory}
 use Rattle.term_core_spec.proofs.Same.{variable-same}
 use Rattle.term_core_spec.specs.Term.{Term, open_term}
 use Rattle.term_core_spec.specs.Substitution.{State, substituted}
@@ -15,7 +16,7 @@ use Rattle.term_bank.specs.Nodes.{tree_at, Holds}
 use Rattle.term_bank.proofs.Substitution.{is_at}
 use Rattle.term_substitution.specs.States.{tree_or, AreBelow}
 use Rattle.graph_core_spec.specs.Graph.{Binding}
-use Rattle.graph_core_spec.specs.Run.{is_shared, is_register}
+use Rattle.graph_core_spec.specs.Run.{is_register}
 use Rattle.path_cond.specs.Bound.{has}
 use Rattle.path_cond.specs.States.{IsMapOf}
 use Rattle.sim_rules_spec.specs.Calls.{Callee, left, left_memory, left_register, result_or, is_kept_register, source_returns, binary_returns}
@@ -61,16 +62,16 @@ module _ (trees : List Term) (variables : List Variable) (c : Convention) (calle
 
   -- ---- the source
 
-  other_by : (v : Variable) → has variables v ≡ true → (shared : Bool)
-      → tree_or trees (if shared then lefts v else source v) (open_term v) ≡ (if shared then left v else (at_cut c).source v)
+  other_by : (v : Variable) → has variables v ≡ true → (theirs : Bool)
+      → tree_or trees (if theirs then lefts v else source v) (open_term v) ≡ (if theirs then left v else (at_cut c).source v)
   other_by v h true = left_is trees variables lefts are_left v h
   other_by v h false = of_s.current v
 
   source_is : (v : Variable) → has variables v ≡ true → tree_or trees (source_id bound lefts source v) (open_term v) ≡ source_returns (returning outputs) (at_cut c) v
   source_is v h =
-      or_tree trees (bound v) (if is_shared v then lefts v else source v) (open_term v)
-      ∙ ap (tree_or trees (bound v)) (other_by v h (is_shared v))
-      ∙ are_bound.given (λ w. if is_shared w then left w else (at_cut c).source w) v
+      or_tree trees (bound v) (if is_memory v.sort then lefts v else source v) (open_term v)
+      ∙ ap (tree_or trees (bound v)) (other_by v h (is_memory v.sort))
+      ∙ are_bound.given (λ w. if is_memory w.sort then left w else (at_cut c).source w) v
 
   -- ---- both sides
 
@@ -130,7 +131,7 @@ module _ (n memory : ℕ) (returned : Option ℕ) (lefts bound binary source : V
 
   source_below : (v : Variable) → IsBelow n (source_id bound lefts source v)
   source_below v =
-      or_below n (bound v) (if is_shared v then lefts v else source v) (of_a v) (if_below n (is_shared v) (lefts v) (source v) (of_l v) (of_s v))
+      or_below n (bound v) (if is_memory v.sort then lefts v else source v) (of_a v) (if_below n (is_memory v.sort) (lefts v) (source v) (of_l v) (of_s v))
 
   below_family : (f : Family) (v : Variable) → IsBelow n (returned_by memory returned lefts bound binary source f v)
   below_family family.Register v = register_below v

@@ -5,11 +5,11 @@ use Rattle.term_core_spec.specs.declared.Family.{Family}
 use Rattle.term_core_spec.specs.declared.Family.TheVariants as family
 use Rattle.term_core_spec.specs.declared.Variable.{Variable}
 use Rattle.term_core_spec.specs.Same.{same_variable}
+use Rattle.term_core_spec.specs.Sort.{is_memory}
 use Rattle.term_core_spec.specs.Term.{Term, open_term, over, subtract}
 use Rattle.term_core_spec.specs.Substitution.{State as Terms, substituted}
 use Rattle.term_bank.specs.Nodes.{Holds}
 use Rattle.graph_core_spec.specs.Graph.{Binding}
-use Rattle.graph_core_spec.specs.Run.{is_shared}
 use Rattle.sim_rules_spec.specs.Calling.{word}
 use Rattle.sim_rules_spec.specs.Calls.{CallPair, Callee, left, left_memory, is_kept_register, machine_register, binary_returns, source_returns}
 use Rattle.sim_rules_spec.specs.Points.{Convention, binary_memory, source_memory, zone_memory}
@@ -24,9 +24,9 @@ abbrev pub register_id : (returned : Option ℕ) → (lefts before : Variable �
 register_id returned lefts before v =
     if is_kept_register v.index then before v else (if v.index == 10 then option_or returned (lefts v) else lefts v)
 
--- a variable of the source: what the call binds, what the callee leaves, or as before
+-- a variable of the source: what the call binds, what the callee leaves of its memory, or as before
 abbrev pub source_id : (bound lefts before : Variable → Option ℕ) → Variable → Option ℕ
-source_id bound lefts before v = option_or (bound v) (if is_shared v then lefts v else before v)
+source_id bound lefts before v = option_or (bound v) (if is_memory v.sort then lefts v else before v)
 
 -- a variable of a family; `memory` is the binary's
 abbrev pub returned_by : (memory : ℕ) → (returned : Option ℕ) → (lefts bound binary source : Variable → Option ℕ) → Family → Variable → Option ℕ

@@ -25,8 +25,7 @@ use crate::left::left_terms;
 use crate::listing::list_variables;
 use crate::sites::CallSite;
 use crate::variables::{
-    BINARY_MEMORY, FIRST_ARGUMENT, STACK_POINTER, ZONE_MEMORY, fresh, is_kept, is_shared,
-    machine_register,
+    BINARY_MEMORY, FIRST_ARGUMENT, STACK_POINTER, ZONE_MEMORY, fresh, is_kept, machine_register,
 };
 use c_graph_terms::MEMORY;
 use indexmap::IndexSet;
@@ -34,7 +33,7 @@ use sim_rules_terms::{Known, all_lines, open, over_two, overlaid, word};
 use std::alloc::{AllocError, Global};
 use term_bank::{Bank, TermId};
 use term_core::Term;
-use term_core_spec::{BinaryOperator, Family, Variable, WordOperator};
+use term_core_spec::{BinaryOperator, Family, Sort, Variable, WordOperator};
 use term_substitution::{Lookup, intern, rename};
 
 /// The difference of two words.
@@ -89,16 +88,16 @@ impl<'a> Returned<'a> {
         }
     }
 
-    // A variable of the source: what the call binds, what the callee leaves, or as before.
+    // A variable of the source: what the call binds, what the callee leaves of its memory, or as
+    // before.
     fn of_source(&self, variable: &Variable) -> Option<TermId>
         ensures { result ≡ source_id (get same_variable self.now.bound.now)
             (get same_variable self.now.left.now) (get same_variable self.now.source.now)
             variable.now }
     {
-        let other = if is_shared(variable) {
-            self.left.get(variable).copied()
-        } else {
-            self.source.get(variable).copied()
+        let other = match variable.sort {
+            Sort::Memory => self.left.get(variable).copied(),
+            Sort::Truth | Sort::Word(_) => self.source.get(variable).copied(),
         };
         self.bound.get(variable).copied().or(other)
     }

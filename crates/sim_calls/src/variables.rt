@@ -42,6 +42,9 @@ pub(crate) const GLOBAL_POINTER: usize = 3;
 /// The number of the first register of arguments, which is that of the result, too.
 pub(crate) const FIRST_ARGUMENT: usize = 10;
 
+/// How many further words are ends of the zone: the first ones.
+const ZONE_ENDS: usize = 2;
+
 /// The registers that a callee leaves as they are: the stack, the global and the thread pointer,
 /// and those that it saves (psABI).
 const KEPT_REGISTERS: [usize; 15] = [2, 3, 4, 8, 9, 18, 19, 20, 21, 22, 23, 24, 25, 26, 27];
@@ -71,7 +74,11 @@ pub(crate) fn is_shared(variable: &Variable) -> bool
 {
     match variable.sort {
         Sort::Memory => true,
-        Sort::Truth | Sort::Word(_) => matches!(variable.family, Family::Register),
+        Sort::Truth | Sort::Word(_) => match variable.family {
+            Family::Register => true,
+            Family::Further => variable.index < ZONE_ENDS,
+            _ => false,
+        },
     }
 }
 

@@ -1,12 +1,12 @@
 -- Runs of graphs with calls inlined one after the other end as the function's do.
-use Rattle.std.proofs.Common.{◌≡◌, ◌≢◌, ◌∙◌, inl, inr, ℕ, ◌<◌, ◌≤◌, true, false, refl, sym, ap, arith, [], length, Option, Some}
+use Rattle.std.proofs.Common.{◌≡◌, ◌≢◌, ◌∙◌, inl, inr, ℕ, ◌<◌, ◌≤◌, true, false, refl, sym, ap, arith, ◌||◌, [], length, Option, Some}
 use Rattle.std.proofs.lemmas.List.Elements.{All-weaker}
 use Rattle.std.proofs.lemmas.Bool.{or_left}
 use Rattle.term_core_spec.specs.declared.Variable.{Variable}
 use Rattle.term_core_spec.specs.Sort.{is_memory}
 use Rattle.term_core_spec.specs.Value.{Assignment}
 use Rattle.graph_core_spec.specs.Graph.{Binding, Graph, Graphs}
-use Rattle.graph_core_spec.specs.Run.{State, Running, is_register}
+use Rattle.graph_core_spec.specs.Run.{State, Running, is_register, is_zone_end}
 use Rattle.graph_core_spec.specs.Fixed.{AlwaysHoldsFixed}
 use Rattle.graph_inline_spec.specs.Inlining.{IsElsewhere}
 use Rattle.graph_inline_spec.specs.Kept.{EndsAlike}
@@ -82,7 +82,7 @@ module _ (graphs : Graphs) (outermost : ℕ) (functions : Functions) (function :
         let step = inlines graphs functions set outermost function named free instance g new n callee inputs outputs landing f so_far fits call is made in
         let plain = plain_call graphs functions set outermost function named free instance g new n callee inputs outputs landing f so_far fits call is made in
         fixed_kept (beside graphs g) (own_number graphs) n f.own instance (beside graphs new) step m (omega (arith, there, so_far.size)) values values (λ v same. refl) fixed memory
-        (or_left (is_memory memory.sort) (is_register memory.family) is_memory_too)
+        (or_left (is_memory memory.sort) (is_register memory.family || is_zone_end memory) is_memory_too)
         (All-weaker (λ (b : Binding). is_memory b.variable.sort ≡ false) (λ (b : Binding). b.variable ≢ memory)
         (λ b none e. clash (ap (λ (u : Variable). is_memory u.sort) e ∙ is_memory_too) none) outputs plain.takes)
         (chain_holds free g before)

@@ -1,6 +1,6 @@
 -- The run of a graph of a set, and the run of the same graph in the set with a further one beside it, where it may have
 -- another number. Where the run in the set calls a function that has no graph, and fails, the other fails a step later.
-use Rattle.std.proofs.Common.{◌≡◌, ◌∙◌, ◌⊎◌, inl, inr, ℕ, ◌<◌, ◌≤◌, zero, suc, Bool, true, false, if◌then◌else◌, refl, sym, ap, ap₂, subst, arith, List, [], ◌∷◌, length, All, Option, Some, None, option_and_then}
+use Rattle.std.proofs.Common.{◌≡◌, ◌∙◌, ◌⊎◌, inl, inr, ℕ, ◌<◌, ◌≤◌, zero, suc, Bool, ◌||◌, true, false, if◌then◌else◌, refl, sym, ap, ap₂, subst, arith, List, [], ◌∷◌, length, All, Option, Some, None, option_and_then}
 use Rattle.std.specs.Prelude.{⊤, slice_get}
 use Rattle.std.proofs.lemmas.Bool.{cases_lt, or_left}
 use Rattle.std.proofs.lemmas.List.Elements.{All-weaker}
@@ -13,7 +13,7 @@ use Rattle.graph_core_spec.specs.declared.Next.{Next}
 use Rattle.graph_core_spec.specs.declared.Next.TheVariants as next
 use Rattle.graph_core_spec.specs.TransitionSystem.{after}
 use Rattle.graph_core_spec.specs.Graph.{Binding, Node, Basic, Cond, Call, Graph, Graphs, node_at}
-use Rattle.graph_core_spec.specs.Run.{Waiting, State, Running, Returned, Failed, leave, go, enter, act, step, bound, entered, is_shared, is_register, is_truth, system_of, has_returned, has_failed, unset}
+use Rattle.graph_core_spec.specs.Run.{Waiting, State, Running, Returned, Failed, leave, go, enter, act, step, bound, entered, is_shared, is_register, is_zone_end, is_truth, system_of, has_returned, has_failed, unset}
 use Rattle.graph_core_spec.specs.Fixed.{has_byte, holds_byte, AlwaysHoldsFixed}
 use Rattle.graph_core_spec.proofs.Runs.{after-suc, still}
 use Rattle.graph_inline_spec.proofs.Naming.{clash, differ}
@@ -32,7 +32,7 @@ entered_memory inputs values none memory is =
     bound_apart inputs values (λ v. if is_shared v then values v else unset v.sort) memory
     (All-weaker (λ (b : Binding). is_memory b.variable.sort ≡ false) (λ (b : Binding). same_variable memory b.variable ≡ false)
     (λ b no. differ memory b.variable (λ e. clash (ap (λ (u : Variable). is_memory u.sort) (sym e) ∙ is) no)) inputs none)
-    ∙ ap (λ (shared : Bool). if shared then values memory else unset memory.sort) (or_left (is_memory memory.sort) (is_register memory.family) is)
+    ∙ ap (λ (shared : Bool). if shared then values memory else unset memory.sort) (or_left (is_memory memory.sort) (is_register memory.family || is_zone_end memory) is)
 
 module _ (graphs : Graphs) (g : ℕ) (own : Graph) (outer : ℕ) (here : slice_get (beside graphs own) outer ≡ slice_get graphs g) (functions : Functions) (calls : All (IsPlainGraph (length graphs) functions) graphs) where
   abbrev all : Graphs

@@ -1,8 +1,12 @@
 pub mod Beside
 pub mod Copied
 pub mod Unfolded
+pub mod Kept
+pub mod OfKind
+pub mod Spared
 pub mod Chained
 pub mod Staying
+pub mod Steady
 pub mod Ending
 pub mod Lines
 pub mod Starting

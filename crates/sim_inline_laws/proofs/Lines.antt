@@ -44,13 +44,15 @@ lines_alike (line ∷ lines) at x x2 y y2 same =
 not_zone : (v : Variable) → is_shared v ≡ false → same_variable v zone_memory ≡ true → ⊥
 not_zone v own same = clash (ap is_shared (variable-same v zone_memory same)) own
 
--- lines that speak of variables that have not changed, of the binary or of the source
+-- lines that speak of variables of the binary that have not changed
 module _ (P : Variable → Type 0) (own : (v : Variable) → P v → is_shared v ≡ false) (lines : List Term) (speak : All (TermSpeaksOf P) lines) where
   pub binary_unchanged : (at : ℕ) (x x2 y : State) → ((v : Variable) → P v → values_in x v ≡ values_in x2 v) → all_hold lines at x y ≡ all_hold lines at x2 y
   binary_unchanged at x x2 y same =
       lines_alike lines at x x2 y y
       (λ k d less v o. let is = speak k d less v o in value_alike at x x2 y y v (same v is) refl (λ e. absurd (not_zone v (own v is) e)))
 
+-- and of the source
+module _ (P : Variable → Type 0) (lines : List Term) (speak : All (TermSpeaksOf P) lines) where
   pub source_unchanged : (at : ℕ) (x y y2 : State) → ((v : Variable) → P v → values_in y v ≡ values_in y2 v) → all_hold lines at x y ≡ all_hold lines at x y2
   source_unchanged at x y y2 same =
       lines_alike lines at x x y y2 (λ k d less v o. let is = speak k d less v o in value_alike at x x y y2 v refl (same v is) (λ e. refl))

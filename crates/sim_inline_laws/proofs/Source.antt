@@ -1,13 +1,14 @@
 -- A frame may be simulated with calls of the source inlined.
-use Rattle.std.proofs.Common.{◌≡◌, ◌∙◌, ◌⊎◌, inl, inr, ℕ, true, false, ◌||◌, refl, sym, ap, subst, arith, List, [], map, All}
+use Rattle.std.proofs.Common.{◌≡◌, ◌≢◌, ◌∙◌, ◌⊎◌, inl, inr, ℕ, true, false, ◌||◌, refl, sym, ap, subst, arith, List, [], ◌∷◌, map, All}
 use Rattle.std.proofs.lemmas.Bool.{and_parts, and_from}
-use Rattle.std.proofs.lemmas.List.Elements.{All-nil}
+use Rattle.std.proofs.lemmas.List.Elements.{All-nil, All-cons}
 use Rattle.term_core_spec.specs.declared.Variable.{Variable}
 use Rattle.term_core_spec.specs.Term.{Term}
 use Rattle.term_core_spec.specs.Value.{Assignment}
 use Rattle.graph_core_spec.specs.TransitionSystem.{after, StopsAt, IsSafe, KeepsBounds}
 use Rattle.graph_core_spec.specs.declared.Mark.{Mark}
-use Rattle.graph_core_spec.specs.Graph.{Graph, IsValid}
+use Rattle.graph_core_spec.specs.declared.Next.TheVariants as next
+use Rattle.graph_core_spec.specs.Graph.{Binding, Basic, Graph, IsValid}
 use Rattle.graph_core_spec.specs.Simulation as systems
 use Rattle.graph_core_spec.specs.Simulation.{Agree, EndsAlike, both_return, both_arrive, IsHeld, IsStart, source_marks}
 use Rattle.graph_core_spec.specs.Run.{State, Running, Returned, Failed, has_returned, has_failed}
@@ -19,18 +20,19 @@ use Rattle.sim_rules_spec.specs.Systems.{system_at, goal_over, hold_over, frame_
 use Rattle.graph_inline_spec.specs.Beside.{beside, own_number}
 use Rattle.sim_inline_laws.specs.Unfolding.{Inlinable, Functions, Unfolds}
 use Rattle.sim_inline_laws.specs.Runs.{SameOfFunction, EndAlike, beside_side}
-use Rattle.sim_inline_laws.specs.Frames.{Stays, IsWhole, IsInlinableSide, SourceIsSound}
+use Rattle.sim_inline_laws.specs.Frames.{SparesIt, IsNeverBound, IsWhole, IsInlinableSide, SourceIsSound}
 use Rattle.sim_inline_laws.proofs.Beside.{at_own, all_beside, failing_valid}
 use Rattle.sim_inline_laws.proofs.Unfolded.{IsUnfolded, unfolded_is}
 use Rattle.sim_inline_laws.proofs.Chained.{chain_ends, chain_holds}
-use Rattle.sim_inline_laws.proofs.Staying.{stays}
+use Rattle.sim_inline_laws.proofs.Spared.{own_spares}
+use Rattle.sim_inline_laws.proofs.Steady.{stays_so}
 use Rattle.sim_inline_laws.proofs.Ending.{old_stops, new_stops, new_safe}
 use Rattle.sim_inline_laws.proofs.Lines.{source_unchanged, source_returns, still_hold}
 use Rattle.sim_inline_laws.proofs.Starting.{at_node, is_at_node, none_held, no_goal}
 
 module _ (c : Convention) (lines : List Term) (f : Frame) (functions : Functions) (function : Inlinable) (free : ℕ) (own : Graph) (whole : IsWhole c f)
     (side : IsInlinableSide f.source f.start.nodes.source functions function) (unfolds : Unfolds functions function free own)
-    (zone : All (TermSpeaksOf (Stays function.graph)) (source_zone c)) where
+    (zone : All (TermSpeaksOf (IsNeverBound f.source.graphs)) (source_zone c)) where
   abbrev inlined_frame : Frame
   inlined_frame = record f { source = beside_side f.source own }
 
@@ -42,6 +44,15 @@ module _ (c : Convention) (lines : List Term) (f : Frame) (functions : Functions
 
   so_far : IsUnfolded f.source.graphs functions side.set f.source.outermost function side.outermost free own
   so_far = unfolded_is f.source.graphs functions side.set f.source.outermost function side.outermost free own unfolds
+
+  -- with calls inlined, no graph binds what none bound
+  none_binds : (v : Variable) → IsNeverBound f.source.graphs v → IsNeverBound (beside f.source.graphs own) v
+  none_binds v is = record {
+    shared = is.shared;
+    unbound = all_beside (λ (g : Graph). All (SparesIt v) g.nodes) f.source.graphs own is.unbound
+        (All-cons (SparesIt v) (Basic [] next.Err) [] (All-nil (λ (b : Binding). b.variable ≢ v)) (All-nil (SparesIt v)))
+        (own_spares f.source.graphs functions side.set f.source.outermost function side.outermost v is free own unfolds);
+  }
 
   no_source : source_marks new ≡ []
   no_source = ap (λ (goals : List Goal). map (λ (g : systems.Goal State State). g.source) (map (goal_over c) goals)) whole.no_goals
@@ -84,16 +95,14 @@ module _ (c : Convention) (lines : List Term) (f : Frame) (functions : Functions
       abbrev there : ℕ → State
       there k = after (system_at (beside_side f.source own)) k begin_own
 
-      unchanged : (k : ℕ) → has_failed (there k) ≡ false → (v : Variable) → Stays function.graph v → values_in (there k) v ≡ values_in begin v
-      unchanged k live v is =
-          stays v is.own (values v) (beside f.source.graphs own) (own_number f.source.graphs) own (at_own f.source.graphs own) (so_far.keeps v is.own is.of_function is.unbound) k f.start.nodes.source
-          values refl live
+      unchanged : (k : ℕ) → has_failed (there k) ≡ false → (v : Variable) → IsNeverBound f.source.graphs v → values_in (there k) v ≡ values_in begin v
+      unchanged k live v is = stays_so (beside f.source.graphs own) v (none_binds v is) (values v) (own_number f.source.graphs) k f.start.nodes.source values refl live
 
       own_always : (k at : ℕ) → source_always c at (there k) ≡ true
       own_always k at =
           and_from (holds_byte (bounded c.fixed) source_memory at (there k)) (has_failed (there k) || all_hold (source_zone c) at Failed (there k)) (own_bytes k at)
           (still_hold (source_zone c) at Failed Failed (there k) begin (has_failed (there k))
-          (λ live. source_unchanged (Stays function.graph) (λ v is. is.own) (source_zone c) zone at Failed (there k) begin (unchanged k live)) (zone_begins at))
+          (λ live. source_unchanged (IsNeverBound f.source.graphs) (source_zone c) zone at Failed (there k) begin (unchanged k live)) (zone_begins at))
 
       own_fine : IsSourceFine c inlined_frame begin_own
       own_fine = record {

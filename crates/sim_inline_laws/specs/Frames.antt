@@ -1,8 +1,9 @@
 -- What it means that a frame may be simulated with calls inlined.
-use Rattle.std.specs.Prelude.{◌≡◌, ℕ, ◌<◌, false, List, [], ◌++◌, length, All, Some}
+use Rattle.std.specs.Prelude.{◌≡◌, ◌≢◌, ℕ, ◌<◌, true, false, List, [], ◌++◌, length, All, Some}
 use Rattle.term_core_spec.specs.declared.Variable.{Variable}
 use Rattle.term_core_spec.specs.Term.{Term}
-use Rattle.graph_core_spec.specs.Graph.{Graph}
+use Rattle.graph_core_spec.specs.Graph.{Node, Graph, Graphs}
+use Rattle.graph_core_spec.specs.Variables.{all_bindings}
 use Rattle.graph_core_spec.specs.Run.{is_shared}
 use Rattle.graph_inline_spec.specs.Inlining.{TermSpeaksOf}
 use Rattle.graph_inline_spec.specs.Kept.{NeverBindsIt}
@@ -17,6 +18,15 @@ pub record Stays (g : Graph) (v : Variable) : Type 0 where
   pub own : is_shared v ≡ false
   pub of_function : v.instance < 2
   pub unbound : NeverBindsIt g v
+
+-- no node binds it, in its own function's frame or a callee's
+abbrev pub SparesIt : Variable → Node → Type 0
+SparesIt v node = All (λ b. b.variable ≢ v) (all_bindings node)
+
+-- a variable of callers and callees alike that keeps its value: no node of any graph of the set binds it
+pub record IsNeverBound (graphs : Graphs) (v : Variable) : Type 0 where
+  pub shared : is_shared v ≡ true
+  pub unbound : All (λ g. All (SparesIt v) g.nodes) graphs
 
 -- a frame from the entry of a function to its returns, of which nothing is said yet. What holds where both have returned
 -- speaks of no inlined call
@@ -43,5 +53,5 @@ BinaryIsSound = (c : Convention) (lines : List Term) (f : Frame) (functions : Fu
 abbrev pub SourceIsSound : Type 0
 SourceIsSound = (c : Convention) (lines : List Term) (f : Frame) (functions : Functions) (function : Inlinable) (free : ℕ) (own : Graph) → IsWhole c f
     → IsInlinableSide f.source f.start.nodes.source functions function → Unfolds functions function free own
-    → All (TermSpeaksOf (Stays function.graph)) (source_zone c)
+    → All (TermSpeaksOf (IsNeverBound f.source.graphs)) (source_zone c)
     → IsSimulated c (all_hold lines) (record f { source = beside_side f.source own }) → IsSimulated c (all_hold lines) f

@@ -1,7 +1,7 @@
 -- Where a callee has given back what it owes, a valid obligation gives the relation after the calls.
 use Rattle.std.proofs.Common.{◌≡◌, ◌∙◌, ℕ, ◌==◌, ◌&&◌, ◌||◌, Bool, true, false, if◌then◌else◌, List, [], ◌∷◌, ◌++◌, map, Option, Some, None, refl, sym, ap, subst, inl, inr}
 use Rattle.std.specs.List.{All, list_all}
-use Rattle.std.proofs.lemmas.Bool.{cases_Bool, false≢true, or_right, or_from, eqb-true}
+use Rattle.std.proofs.lemmas.Bool.{cases_Bool, false≢true, or_left, or_right, or_from, eqb-true}
 use Rattle.std.proofs.lemmas.List.Elements.{All-nil, All-cons, All-head, All-tail, All-weaker}
 use Rattle.term_core_spec.specs.declared.Width.TheVariants.{W32}
 use Rattle.term_core_spec.specs.declared.Family.{Family}
@@ -17,7 +17,7 @@ use Rattle.term_core_spec.proofs.Substitution.{value-substituted}
 use Rattle.term_core_spec.proofs.Variables.{value-occurs}
 use Rattle.graph_core_spec.specs.Simulation.{IsRelated}
 use Rattle.graph_core_spec.specs.Graph.{Binding}
-use Rattle.graph_core_spec.specs.Run.{Running, bound, resumed, unset, is_shared, is_register, is_truth}
+use Rattle.graph_core_spec.specs.Run.{Running, bound, resumed, unset, is_shared, is_register, is_zone_end, is_truth}
 use Rattle.path_cond_spec.specs.Passages.{holds}
 use Rattle.proof_tree_spec.specs.Cuts.{both}
 use Rattle.proof_tree_spec.specs.Frames.{Frame}
@@ -207,6 +207,10 @@ module _ (at : ℕ) (x y r s : Assignment) where
       ]
     ]
 
+    -- neither a memory nor a register nor an end of the zone
+    own_alone : (v : Variable) → is_memory v.sort ≡ false → is_register v.family ≡ false → is_zone_end v ≡ false → is_shared v ≡ false
+    own_alone v m r z = or_from (is_memory v.sort) (is_register v.family || is_zone_end v) m (or_from (is_register v.family) (is_zone_end v) r z)
+
     abbrev returned_term : Bool → Bool → Variable → Term
     returned_term p q v = if p then left_memory c callee o.binary else (if q then left_register callee o.binary v else o.binary v)
 
@@ -220,42 +224,44 @@ module _ (at : ℕ) (x y r s : Assignment) where
           ∙ elim (cases_Bool (is_register v.family)) [
             | inl h ↦
                 ap (λ (t : Bool). value a (if t then left_register callee o.binary v else o.binary v)) h ∙ register_value v p.old (p.register h)
-                ∙ sym (ap (λ (t : Bool). if t then r v else x v) (or_right (is_memory v.sort) (is_register v.family) h)) ∙ sym (resumed_binary v)
+                ∙ sym (ap (λ (t : Bool). if t then r v else x v) (or_right (is_memory v.sort) (is_register v.family || is_zone_end v)
+                (or_left (is_register v.family) (is_zone_end v) h))) ∙ sym (resumed_binary v)
             | inr h ↦
                 ap (λ (t : Bool). value a (if t then left_register callee o.binary v else o.binary v)) h ∙ kept_value v p.old mine
-                ∙ sym (ap (λ (t : Bool). if t then r v else x v) (or_from (is_memory v.sort) (is_register v.family) (no_memory v p mine apart) h)) ∙ sym (resumed_binary v)
+                ∙ sym (ap (λ (t : Bool). if t then r v else x v) (own_alone v (no_memory v p mine apart) h p.no_end)) ∙ sym (resumed_binary v)
           ]
     ]
 
     -- ---- the source
 
-    shared_source : (v : Variable) → IsPlain v → is_source v.family ≡ true → is_shared v ≡ true → v ≡ source_memory
-    shared_source v p mine h = elim (cases_Bool (is_memory v.sort)) [
-      | inl m ↦ elim (p.memory m) [
-        | inl e ↦ absurd (false≢true (sym (ap (λ (w : Variable). is_source w.family) e) ∙ mine))
-        | inr (inl e) ↦ e
-        | inr (inr e) ↦ absurd (false≢true (sym (ap (λ (w : Variable). is_source w.family) e) ∙ mine))
-      ]
-      | inr m ↦
-          let own : is_register v.family ≡ true = ap (λ (t : Bool). t || is_register v.family) (sym m) ∙ h in
-          absurd (false≢true (sym (ap (λ (w : Variable). is_source w.family) (p.register own)) ∙ mine))
+    its_memory : (v : Variable) → IsPlain v → is_source v.family ≡ true → is_memory v.sort ≡ true → v ≡ source_memory
+    its_memory v p mine m = elim (p.memory m) [
+      | inl e ↦ absurd (false≢true (sym (ap (λ (w : Variable). is_source w.family) e) ∙ mine))
+      | inr (inl e) ↦ e
+      | inr (inr e) ↦ absurd (false≢true (sym (ap (λ (w : Variable). is_source w.family) e) ∙ mine))
+    ]
+
+    no_register : (v : Variable) → IsPlain v → is_source v.family ≡ true → is_register v.family ≡ false
+    no_register v p mine = elim (cases_Bool (is_register v.family)) [
+      | inl h ↦ absurd (false≢true (sym (ap (λ (w : Variable). is_source w.family) (p.register h)) ∙ mine))
+      | inr h ↦ h
     ]
 
     rest_source : (v : Variable) → IsPlain v → is_source v.family ≡ true
-        → value a (if is_shared v then left v else o.source v) ≡ (if is_shared v then s v else y v)
-    rest_source v p mine = elim (cases_Bool (is_shared v)) [
-      | inl h ↦
-          ap (λ (t : Bool). value a (if t then left v else o.source v)) h
-          ∙ given_value v (subst IsGiven (sym (shared_source v p mine h)) (record { of_callee = refl; given = inr refl }))
-          ∙ sym (ap (λ (t : Bool). if t then s v else y v) h)
-      | inr h ↦
-          ap (λ (t : Bool). value a (if t then left v else o.source v)) h ∙ old_term (o.source v) (old_source v p.old) ∙ opened_y v mine
-          ∙ sym (ap (λ (t : Bool). if t then s v else y v) h)
+        → value a (if is_memory v.sort then left v else o.source v) ≡ (if is_shared v then s v else y v)
+    rest_source v p mine = elim (cases_Bool (is_memory v.sort)) [
+      | inl m ↦
+          ap (λ (t : Bool). value a (if t then left v else o.source v)) m
+          ∙ given_value v (subst IsGiven (sym (its_memory v p mine m)) (record { of_callee = refl; given = inr refl }))
+          ∙ sym (ap (λ (t : Bool). if t then s v else y v) (or_left (is_memory v.sort) (is_register v.family || is_zone_end v) m))
+      | inr m ↦
+          ap (λ (t : Bool). value a (if t then left v else o.source v)) m ∙ old_term (o.source v) (old_source v p.old) ∙ opened_y v mine
+          ∙ sym (ap (λ (t : Bool). if t then s v else y v) (own_alone v m (no_register v p mine) p.no_end))
     ]
 
     source_value : (v : Variable) → IsPlain v → is_source v.family ≡ true → values_of a (source_returns calls o) v ≡ resumed calls.source_outputs s y v
     source_value v p mine =
-        assigned-by a left s calls.source_outputs (λ w. if is_shared w then left w else o.source w) (λ w. if is_shared w then s w else y w)
+        assigned-by a left s calls.source_outputs (λ w. if is_memory w.sort then left w else o.source w) (λ w. if is_shared w then s w else y w)
         (All-weaker (λ (d : Binding). IsGivenTerm d.term) (Has a left s) (λ d h w k. given_value w (h w k)) calls.source_outputs is.outputs) v
         (rest_source v p mine)
 
@@ -274,7 +280,7 @@ module _ (at : ℕ) (x y r s : Assignment) where
     rest v = if same_variable v zone_memory then binary_returns c callee o binary_memory else open_term v
 
     plain_memory : IsPlain binary_memory
-    plain_memory = record { old = refl; register = λ h. absurd (false≢true h); memory = λ h. inl refl }
+    plain_memory = record { old = refl; register = λ h. absurd (false≢true h); memory = λ h. inl refl; no_end = refl }
 
     zone_part : (v : Variable) (zone : Value) (t : Bool) → same_variable v zone_memory ≡ t
         → other_values at zone v ≡ (if t then zone else (if same_variable v address then Number W32 (low_bits 32 at) else unset v.sort))

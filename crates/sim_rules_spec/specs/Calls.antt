@@ -13,7 +13,7 @@ use Rattle.term_core_spec.specs.Term.{Term, Occurs, truth, not_term, equal, less
 use Rattle.term_core_spec.specs.Value.{Assignment, IsAssignment, value, laid_over}
 use Rattle.term_core_spec.specs.Substitution.{State as Terms, substituted, at_instance}
 use Rattle.graph_core_spec.specs.Graph.{Binding}
-use Rattle.graph_core_spec.specs.Run.{is_shared, is_register, entered}
+use Rattle.graph_core_spec.specs.Run.{is_shared, is_register, is_zone_end, entered}
 use Rattle.path_cond_spec.specs.Conditions.{assigned}
 use Rattle.path_cond_spec.specs.Passages.{holds}
 use Rattle.proof_tree_spec.specs.Frames.{Frame}
@@ -117,8 +117,9 @@ binary_returns c callee o = λ v.
     if same_variable v binary_memory then left_memory c callee o.binary
     else (if is_register v.family then left_register callee o.binary v else o.binary v)
 
+-- the source's memory is what the callee leaves; the ends of the zone are as before, and so are the caller's own variables
 abbrev pub source_returns : CallPair → Opening → Terms
-source_returns calls o = assigned calls.source_outputs left (λ v. if is_shared v then left v else o.source v)
+source_returns calls o = assigned calls.source_outputs left (λ v. if is_memory v.sort then left v else o.source v)
 
 -- the relation where both are back
 abbrev pub returns_well : Convention → CallPair → Callee → Opening → List Term → Term
@@ -190,11 +191,13 @@ is_left_family f = false
 abbrev pub is_left : Variable → Bool
 is_left v = (v.instance == 1) && is_left_family v.family
 
--- lines before and after a call speak of none of these, and of registers and memories as they are in scope
+-- lines before and after a call speak of none of these, of registers and memories as they are in scope, and of no end of
+-- the zone
 pub record IsPlain (v : Variable) : Type 0 where
   pub old : is_left v ≡ false
   pub register : is_register v.family ≡ true → v ≡ machine_register v.index
   pub memory : is_memory v.sort ≡ true → (v ≡ binary_memory) ⊎ ((v ≡ source_memory) ⊎ (v ≡ zone_memory))
+  pub no_end : is_zone_end v ≡ false
 
 abbrev pub IsPlainLine : Term → Type 0
 IsPlainLine line = (v : Variable) → Occurs v line → IsPlain v

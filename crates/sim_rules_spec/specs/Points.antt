@@ -25,7 +25,7 @@ source_memory = record { family = family.SourceMemory; index = 0; instance = 0; 
 abbrev pub zone_memory : Variable
 zone_memory = record { family = family.ZoneMemory; index = 0; instance = 0; sort = sort.Memory }
 
--- the ends of that zone, as words of the source's states
+-- the ends of that zone, as words of the source's states; caller and callee share them
 abbrev pub zone_low : Variable
 zone_low = record { family = family.Further; index = 0; instance = 0; sort = sort.Word W32 }
 
@@ -58,7 +58,7 @@ of_sides binary source others = λ v. if is_binary v.family then binary v else (
 
 -- ---- states
 
--- of the functions that wait, each has its own variables; memories and registers there are once
+-- of the functions that wait, each has its own variables; memories, registers and the ends of the zone there are once
 abbrev pub outermost_values : Assignment → List Waiting → Assignment
 outermost_values values [] = values
 outermost_values values (f ∷ below) = λ v. if is_shared v then values v else outermost_values f.values below v

@@ -1,1 +1,3 @@
 mod States
+pub mod Taking
+pub mod Sorted

@@ -1,9 +1,9 @@
 //! Rows of terms, goals, clauses and logs, each with the answer that is expected of it.
 //!
 //! A row is `QUESTION WORDS = ANSWER`; each is printed with `ok`, or with what was found in place
-//! of the answer. The modules `terms`, `trees`, `goals`, `closing`, `logs` and `searches` have the
-//! questions, `words` has how a term is written, and `clauses` how clauses are. A row without ` = `
-//! is a title.
+//! of the answer. The modules `terms`, `trees`, `goals`, `closing`, `logs`, `searches`, `steps`
+//! and `rules` have the questions, `words` has how a term is written, and `clauses` how clauses
+//! are. A row without ` = ` is a title.
 #![tactic(auto)]
 
 mod clauses;
@@ -11,7 +11,9 @@ mod closing;
 mod families;
 mod goals;
 mod logs;
+mod rules;
 mod searches;
+mod steps;
 mod terms;
 mod trees;
 mod words;
@@ -41,9 +43,13 @@ pub(crate) enum Question {
     Model,
     Close,
     Seek,
+    Steps,
+    Comm,
+    Bits,
+    Decided,
 }
 
-const QUESTIONS: [(&str, Question); 16] = [
+const QUESTIONS: [(&str, Question); 20] = [
     ("value", Question::Value),
     ("tree", Question::Tree),
     ("set", Question::Set),
@@ -60,6 +66,10 @@ const QUESTIONS: [(&str, Question); 16] = [
     ("model", Question::Model),
     ("close", Question::Close),
     ("seek", Question::Seek),
+    ("steps", Question::Steps),
+    ("comm", Question::Comm),
+    ("bits", Question::Bits),
+    ("decided", Question::Decided),
 ];
 
 /// A row's question, what follows its colon, and the expected answer.
@@ -108,6 +118,10 @@ fn ask(
             terms::put_value(alloc, values, bank, id, out)
         }
         Question::Close => closing::put_close(alloc, bank, id, steps, out),
+        Question::Steps => steps::put_left(alloc, bank, read, id, steps, row.form, out),
+        Question::Comm => rules::put_same(alloc, bank, read, id, row.question, out),
+        Question::Bits => rules::put_same(alloc, bank, read, id, row.question, out),
+        Question::Decided => rules::put_decided(alloc, bank, id, out),
         Question::Seek => { closing::put_sought(alloc, values, bank, id, decimal(row.detail), out) }
         _ => goals::answer(alloc, values, bank, id, row, out),
     }

@@ -240,7 +240,7 @@ pub(crate) fn next(read: &mut Vec<TermId>, count: usize) -> TermId
 
 /// The node of a word over indices that were read, that of the first argument last. They are taken
 /// one after the other, until the word has all its arguments.
-fn node(read: &mut Vec<TermId>, count: usize, word: &str) -> TermNode
+pub(crate) fn node(read: &mut Vec<TermId>, count: usize, word: &str) -> TermNode
     requires { 0 < count }
     ensures { IsNode count result }
 {

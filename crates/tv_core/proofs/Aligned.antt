@@ -9,7 +9,7 @@ use Rattle.agreement_laws.specs.EntryFrame.{Pair}
 use Rattle.validity_laws.specs.Derivation.{Function as LaidFunction}
 use Rattle.validity_laws.specs.CheckStatements.{listed_of}
 use Rattle.cert_check_spec.specs.Verdict.{Listed}
-use Rattle.cert_run_spec.specs.Files.{AreFunctionsOf, AreListed, sides_of}
+use Rattle.cert_run_spec.specs.Files.{AreFunctionsOf, AreListed, firsts_of, sides_of}
 use Rattle.cert_run_spec.specs.Verdict.{valid_judgement}
 use Rattle.cert_run_spec.proofs.Apart.{found_name}
 use Rattle.prove_run_spec.specs.Trails.{Found, Proved, Unproved}
@@ -27,23 +27,23 @@ Aligned [] functions [] = Unit {0}
 Aligned (name ∷ list) (f ∷ functions) (l ∷ listed) = (l.name ≡ name) × (l.stack ≡ f.stack) × Aligned list functions listed
 Aligned list functions listed = ⊥
 
-by_bodies : (unit : Typed) (q : Pair) (list : List (List ℕ)) (functions : List Function) (laid : List LaidFunction)
+by_bodies : (unit : Typed) (q : Pair) (firsts : List (List (ℕ × ℕ))) (list : List (List ℕ)) (functions : List Function) (laid : List LaidFunction)
     → map (λ (f : outcome.Function). f.name) (functions_of list functions) ≡ list → AreFunctionsOf unit (functions_of list functions) laid
-    → Aligned list functions (map (listed_of q) laid)
+    → Aligned list functions (map (listed_of q firsts) laid)
 unfolding AreFunctionsOf Aligned
-by_bodies unit q [] functions [] e h = tt
-by_bodies unit q [] functions (g ∷ laid) e h = absurd h
-by_bodies unit q (name ∷ list) [] laid e h = absurd (cc)
-by_bodies unit q (name ∷ list) (f ∷ functions) [] e h = absurd h
-by_bodies unit q (name ∷ list) (f ∷ functions) (g ∷ laid) e h =
+by_bodies unit q firsts [] functions [] e h = tt
+by_bodies unit q firsts [] functions (g ∷ laid) e h = absurd h
+by_bodies unit q firsts (name ∷ list) [] laid e h = absurd (cc)
+by_bodies unit q firsts (name ∷ list) (f ∷ functions) [] e h = absurd h
+by_bodies unit q firsts (name ∷ list) (f ∷ functions) (g ∷ laid) e h =
     let tails : map (λ (f : outcome.Function). f.name) (functions_of list functions) ≡ list = cc in
-    (found_name unit.bodies name g.body h.0.body_is, h.0.stack_is, by_bodies unit q list functions laid tails h.1)
+    (found_name unit.bodies name g.body h.0.body_is, h.0.stack_is, by_bodies unit q firsts list functions laid tails h.1)
 
 pub aligned : (image : Image) (unit : Typed) (list : List (List ℕ)) (functions : List Function) (entries : List ℕ) (listed : List Listed)
     → map (λ (f : outcome.Function). f.name) (functions_of list functions) ≡ list
     → AreListed image unit (record { functions = functions_of list functions; entries = entries }) listed → Aligned list functions listed
 aligned image unit list functions entries listed e h =
-    subst (Aligned list functions) (sym h.listed_are) (by_bodies unit (sides_of image unit h.runs entries h.sides) list functions h.functions e h.functions_are)
+    subst (Aligned list functions) (sym h.listed_are) (by_bodies unit (sides_of image unit h.runs entries h.sides) (firsts_of h.sides) list functions h.functions e h.functions_are)
 
 pub aligned_length : (list : List (List ℕ)) (functions : List Function) (listed : List Listed) → Aligned list functions listed → length listed ≡ length list
 unfolding Aligned
@@ -173,7 +173,7 @@ none_mapped f (x ∷ xs) e = absurd (cc)
 pub some_listed : (image : Image) (unit : Typed) (pairs : outcome.Pairs) (names : List (List ℕ)) (listed : List Listed) → names ≢ []
     → map (λ (f : outcome.Function). f.name) pairs.functions ≡ names → AreListed image unit pairs listed → listed ≢ []
 some_listed image unit pairs names listed some named h = λ none.
-    let laid : h.functions ≡ [] = none_mapped (listed_of (sides_of image unit h.runs pairs.entries h.sides)) h.functions (sym h.listed_are ∙ none) in
+    let laid : h.functions ≡ [] = none_mapped (listed_of (sides_of image unit h.runs pairs.entries h.sides) (firsts_of h.sides)) h.functions (sym h.listed_are ∙ none) in
     let functions : pairs.functions ≡ [] = none_laid unit pairs.functions h.functions h.functions_are laid in
     some (sym named ∙ ap (map (λ (f : outcome.Function). f.name)) functions)
 

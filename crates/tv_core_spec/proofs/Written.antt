@@ -26,7 +26,7 @@ use Rattle.prove_run_spec.specs.Written as trail
 use Rattle.prove_run_spec.specs.Written.{logs_lines, parts_lines}
 use Rattle.tv_limits.specs.declared.Quantity.TheVariants.{Elf, C, Certificate}
 use Rattle.report_text_spec.specs.Verdict.{Verdict, Judgement, NotProof, Checked, Judged, all_valid, maximum_of}
-use Rattle.cert_run_spec.specs.Files.{AreListed, AreFunctionsOf, sides_of}
+use Rattle.cert_run_spec.specs.Files.{AreListed, AreFunctionsOf, sides_of, firsts_of}
 use Rattle.cert_run_spec.specs.Verdict.{Outcome, IsOutcome, Unread, Broken, Above, Proof, Part, valid_judgement, log_lines, proof_lines, proofs_lines, written_lines, end_offset}
 use Rattle.cert_run_spec.specs.Laws.{CanWrite}
 use Rattle.cert_run_spec.proofs.Apart.{found_name, has_pair}
@@ -66,15 +66,15 @@ with_certificate elf c functions certificate image unit names listed x = record 
 
 -- ---- the listed functions
 
-names_are : (q : Pair) (unit : Typed) (fs : List outcome.Function) (gs : List proofs.Function) → AreFunctionsOf unit fs gs
-    → map (λ (f : Listed). f.name) (map (listed_of q) gs) ≡ map (λ (f : outcome.Function). f.name) fs
+names_are : (q : Pair) (firsts : List (List (ℕ × ℕ))) (unit : Typed) (fs : List outcome.Function) (gs : List proofs.Function) → AreFunctionsOf unit fs gs
+    → map (λ (f : Listed). f.name) (map (listed_of q firsts) gs) ≡ map (λ (f : outcome.Function). f.name) fs
 unfolding AreFunctionsOf
-names_are q unit [] [] are = refl
-names_are q unit [] (g ∷ gs) are = absurd are
-names_are q unit (f ∷ fs) [] are = absurd are
-names_are q unit (f ∷ fs) (g ∷ gs) are =
+names_are q firsts unit [] [] are = refl
+names_are q firsts unit [] (g ∷ gs) are = absurd are
+names_are q firsts unit (f ∷ fs) [] are = absurd are
+names_are q firsts unit (f ∷ fs) (g ∷ gs) are =
     let head : g.body.name ≡ f.name = found_name unit.bodies f.name g.body are.0.body_is in
-    let tail = names_are q unit fs gs are.1 in
+    let tail = names_are q firsts unit fs gs are.1 in
     λ i. head i ∷ tail i
 
 abbrev IsSmall : Listed → Type 0
@@ -89,12 +89,12 @@ module _ (image : Image) (unit : Typed) (list : List (List ℕ)) (pairs : outcom
   q = sides_of image unit are.runs pairs.entries are.sides
 
   listed_names : map (λ (f : Listed). f.name) listed ≡ list
-  listed_names = ap (map (λ (f : Listed). f.name)) are.listed_are ∙ (names_are q unit pairs.functions are.functions are.functions_are ∙ paired.listed)
+  listed_names = ap (map (λ (f : Listed). f.name)) are.listed_are ∙ (names_are q (firsts_of are.sides) unit pairs.functions are.functions are.functions_are ∙ paired.listed)
 
   stacks_small : All IsSmall listed
   stacks_small =
       subst (All IsSmall) (sym are.listed_are)
-      (All-map IsSmall (listed_of q) are.functions
+      (All-map IsSmall (listed_of q (firsts_of are.sides)) are.functions
       (λ k d below.
       (let g = get_or are.functions k d in
       let p = has_pair image unit pairs.functions are.functions are.functions_are paired.functions_are g (k, below, get_or_default are.functions k g d below) in
@@ -103,7 +103,7 @@ module _ (image : Image) (unit : Typed) (list : List (List ℕ)) (pairs : outcom
   names_written : (c : List ℕ) → IsC c unit → All IsNamed listed
   names_written c is =
       subst (All IsNamed) (sym are.listed_are)
-      (All-map IsNamed (listed_of q) are.functions
+      (All-map IsNamed (listed_of q (firsts_of are.sides)) are.functions
       (λ k d below.
       (let g = get_or are.functions k d in
       let p = has_pair image unit pairs.functions are.functions are.functions_are paired.functions_are g (k, below, get_or_default are.functions k g d below) in

@@ -17,6 +17,7 @@ use Rattle.term_core_spec.specs.Sort.{sort_of, sort_of_atom, sort_of_binary}
 use Rattle.term_core_spec.specs.Term.{Term, Occurs, truth, constant, open_term, equal, less, not_term, subtract, bit_and, over}
 use Rattle.term_core_spec.specs.Substitution.{State, substituted}
 use Rattle.graph_core_spec.specs.Graph.{Binding}
+use Rattle.term_core_spec.specs.Sort.{is_memory}
 use Rattle.graph_core_spec.specs.Run.{is_shared, is_register}
 use Rattle.path_cond_spec.specs.Conditions.{assigned}
 use Rattle.c_types_spec.specs.declared.Scalar.{Scalar}
@@ -30,7 +31,7 @@ use Rattle.sim_rules_spec.specs.Rules.{Opening, terms_at_start, terms_at, at_cut
 use Rattle.sim_rules_spec.specs.Calls as calls
 use Rattle.sim_rules_spec.specs.Calls.{CallPair, Callee, unset_or, entered_terms, is_entry, callee_lines, binary_begins, source_begins, begins_well, left, machine_register, is_kept_register, result_or, left_register, left_memory, binary_returns, source_returns, returns_well, call_premises, entry_term, return_term, IsPlainLine}
 use Rattle.agreement_laws.specs.EntryFrame.{Pair, result_term, widened, entry_premises}
-use Rattle.agreement_laws.specs.Callers.{argument_lines, callee_of, frame_of}
+use Rattle.agreement_laws.specs.Callers.{argument_lines, callee_of}
 use Rattle.validity_laws.specs.Derivation.{no_zone, stated}
 use Rattle.validity_laws.proofs.Good.{IsPlain, IsGood, IsGoodState, IsTest, AreTests, open_good, truth_good, not_good, equal_good, less_good, either_good, all_good}
 use Rattle.validity_laws.proofs.Conditions.{IsGoodBinding, assigned_good}
@@ -170,8 +171,8 @@ module _ (q : Pair) (small : q.stack < 2 ^ 32) where
 
     source_sound : (v : Variable) → IsPlain v → IsSound (source_returns pair o v) v.sort
     source_sound v plain =
-        assigned_sound pair.source_outputs (λ w. if is_shared w then left w else o.source w) v outputs
-        (choice_sound (is_shared v) v.sort (left v) (o.source v) (λ h. left_sound v plain) (λ h. good_sound (o.source v) v.sort (cut_source_good q small v plain)))
+        assigned_sound pair.source_outputs (λ w. if is_memory w.sort then left w else o.source w) v outputs
+        (choice_sound (is_memory v.sort) v.sort (left v) (o.source v) (λ h. left_sound v plain) (λ h. good_sound (o.source v) v.sort (cut_source_good q small v plain)))
 
     other_sound : (v : Variable) → IsPlain v → IsSound (if same_variable v zone_memory then binary_returns (stated q) (callee_of p) o binary_memory else open_term v) v.sort
     other_sound v plain =

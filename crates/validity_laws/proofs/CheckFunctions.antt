@@ -15,7 +15,9 @@ use Rattle.proof_tree_spec.specs.Frames.{Start, Goal, Frame, with_premise}
 use Rattle.sim_rules_spec.specs.Rules.{AreOfLeaf, AreTrueWith}
 use Rattle.agreement_laws.specs.EntryFrame.{Pair, entry_frame, entry_opening, scope_of}
 use Rattle.agreement_laws.specs.Statements.{IsPair}
-use Rattle.agreement_laws.specs.Callers.{frame_of}
+use Rattle.agreement_laws.specs.Callers.{own_base, frame_in}
+use Rattle.validity_laws.specs.Inlined.{IsInlined, as_it_is}
+use Rattle.validity_laws.proofs.PlainLines.{own_words}
 use Rattle.agreement_laws.proofs.Pairs.{runs_are}
 use Rattle.validity_laws.specs.Derivation.{Function, pair_for, AtEntry, no_zone, stated, IsProved, AreSides, IsFunction, IsProvedFunction, none, one_more}
 use Rattle.validity_laws.specs.Derivation as derivation
@@ -50,22 +52,26 @@ module _ (q : Pair) (g : Function) (sides : AreSides q) (file : IsFile q) (funct
   is : IsPair p
   is = is_pair q g sides function
 
+  -- nothing is inlined
+  own_inlined : IsInlined p (own_base p)
+  own_inlined = record { binary = as_it_is; source = as_it_is; setting = own_words p.body }
+
   -- the obligations of a Leaf that are closed are true
-  obligations_true : (start : Start) (terms : List Term) → AreTests start.premises → AreOfLeaf (stated p) (entry_opening p no_zone) (frame_of p start [] []) terms
+  obligations_true : (start : Start) (terms : List Term) → AreTests start.premises → AreOfLeaf (stated p) (entry_opening p no_zone) (frame_in p (own_base p) start [] []) terms
       → All (IsClosedGoal p.numbering.runs) terms → AreTrueWith (stated p) terms
   obligations_true start terms premises are closed i d lt =
       goal_true (stated p) p.numbering.runs (runs_have_bytes p.image p.numbering.runs file.bytes (runs_are p is)) (runs_are_fixed p.image p.numbering.runs (runs_are p is))
       (get_or terms i d)
-      (obligations_good q g sides file function small AtEntry start [] terms premises (All-nil (λ (h : Goal). AreTests h.relation)) are i d lt) (closed i d lt)
+      (obligations_good q g sides file function small (own_base p) own_inlined AtEntry start [] terms premises (All-nil (λ (h : Goal). AreTests h.relation)) are i d lt) (closed i d lt)
 
   none_counted : (bounds : List Mark) → bounds ≡ [] → AreCounted bounds
   none_counted bounds none_there = subst AreCounted (sym none_there) (All-nil (λ (m : Mark). 1 ≤ m.count))
 
-  module _ (earlier : List Function) where
-    closed_proved : (start : Start) (frame : Frame) → IsClosed (listed_of q g) frame → frame ≡ frame_of p start [] [] → AreTests start.premises → start.binary_bounds ≡ []
-        → start.source_bounds ≡ [] → IsProved p earlier AtEntry start [] []
+  module _ (earlier : List Function) (firsts : List (List (ℕ × ℕ))) where
+    closed_proved : (start : Start) (frame : Frame) → IsClosed (listed_of q firsts g) frame → frame ≡ frame_in p (own_base p) start [] [] → AreTests start.premises → start.binary_bounds ≡ []
+        → start.source_bounds ≡ [] → IsProved p (own_base p) earlier AtEntry start [] []
     closed_proved start _ (leaf frame terms are closed) same premises no_binary no_source =
-        let here : AreOfLeaf (stated p) (entry_opening p no_zone) (frame_of p start [] []) terms =
+        let here : AreOfLeaf (stated p) (entry_opening p no_zone) (frame_in p (own_base p) start [] []) terms =
         subst (λ (f : Frame). AreOfLeaf (stated p) (entry_opening p no_zone) f terms) same are in
         derivation.leaf AtEntry start [] [] terms (record {
           binary_goals = All-nil (λ (m : Mark). 1 ≤ m.count);
@@ -82,15 +88,17 @@ module _ (q : Pair) (g : Function) (sides : AreSides q) (file : IsFile q) (funct
         (closed_proved (with_premise start (not_term test)) (with_test frame (not_term test)) failing (ap (λ (f : Frame). with_test f (not_term test)) same)
         (All-append IsTest start.premises (not_term test ∷ []) premises (All-cons IsTest (not_term test) [] (not_good test good) (All-nil IsTest))) no_binary no_source)
 
-    function_proved : IsClosed (listed_of q g) (entry_frame p) → IsProvedFunction q earlier g
+    function_proved : IsClosed (listed_of q firsts g) (entry_frame p) → IsProvedFunction q earlier g
     function_proved closed = record {
       function = function;
       small = small;
+      base = own_base p;
+      inlined = own_inlined;
       proved = closed_proved (entry_frame p).start (entry_frame p) closed refl (entry_good q g sides file function small) refl refl;
     }
 
 -- ---- a function alone
 
 pub closed_is_valid : ClosedIsValid
-closed_is_valid q g sides file function small closed named stack =
-    functions_valid q (g ∷ []) sides (one_more [] g none (function_proved q g sides file function small [] closed)) g (0, omega arith, refl) named stack
+closed_is_valid q firsts g sides file function small closed named stack =
+    functions_valid q (g ∷ []) sides (one_more [] g none (function_proved q g sides file function small [] firsts closed)) g (0, omega arith, refl) named stack

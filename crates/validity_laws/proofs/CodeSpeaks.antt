@@ -249,15 +249,21 @@ HasCallShape (Basic bindings next) = ⊤
 HasCallShape (Cond test on_true on_false) = ⊤
 HasCallShape (Call callee inputs outputs lands) = (((back : ℕ) × (inputs ≡ call_inputs back)) ⊎ (inputs ≡ tail_inputs)) × (outputs ≡ [])
 
-abbrev IsGood : Node → Type 0
-IsGood node = IsOwnNode is_binary node × HasCallShape node
+-- a call is of the graph of an address
+abbrev pub HasCallNumber : (number : ℕ → ℕ) → Node → Type 0
+HasCallNumber number (Basic bindings next) = ⊤
+HasCallNumber number (Cond test on_true on_false) = ⊤
+HasCallNumber number (Call callee inputs outputs lands) = (target : ℕ) × (callee ≡ number target)
 
-EndsGood : Ending → Type 0
-EndsGood (Does node further) = All IsGood (node ∷ further)
-EndsGood (Goes on) = ⊤
+abbrev IsGood : Setting → Node → Type 0
+IsGood f node = IsOwnNode is_binary node × HasCallShape node × HasCallNumber f.graph_number node
 
-one_good : (node : Node) → IsGood node → All IsGood (node ∷ [])
-one_good node good = All-cons IsGood node [] good (All-nil IsGood)
+EndsGood : Setting → Ending → Type 0
+EndsGood f (Does node further) = All (IsGood f) (node ∷ further)
+EndsGood f (Goes on) = ⊤
+
+one_good : (f : Setting) (node : Node) → IsGood f node → All (IsGood f) (node ∷ [])
+one_good f node good = All-cons (IsGood f) node [] good (All-nil (IsGood f))
 
 tests_own : (f : Setting) (i : Instr) (flow : Flow) → All Own (tests_of f i flow)
 unfolding tests_of
@@ -274,70 +280,73 @@ tests_own f i Returns = one_test of_binary returns_home home_own
 tests_own f i (Switches jump) = All-nil Own
 tests_own f i Stops = All-nil Own
 
-branching_good : (f : Setting) (a : ℕ) (keeps : Bool) (i : Instr) (target : ℕ) → EndsGood (branching f a keeps i target)
+branching_good : (f : Setting) (a : ℕ) (keeps : Bool) (i : Instr) (target : ℕ) → EndsGood f (branching f a keeps i target)
 unfolding EndsGood
-branching_good f a false i target = one_good (Cond (branch_test i) (toward f target) (toward f (a + 4))) (branch_own i, tt)
+branching_good f a false i target = one_good f (Cond (branch_test i) (toward f target) (toward f (a + 4))) (branch_own i, tt, tt)
 branching_good f a true i target =
     let keeping : Node = Basic (record { variable = table_index; term = bounded_by i } ∷ []) (toward f (a + 4)) in
-    All-cons IsGood (Cond (branch_test i) (toward f target) (to.At (f.at (Of a 1)))) (keeping ∷ []) (branch_own i, tt) (one_good keeping (keeping_own i, tt))
+    All-cons (IsGood f) (Cond (branch_test i) (toward f target) (to.At (f.at (Of a 1)))) (keeping ∷ []) (branch_own i, tt, tt) (one_good f keeping (keeping_own i, tt, tt))
 
-table_good : (f : Setting) (a n : ℕ) (targets : List ℕ) → All IsGood (table_tests f a n targets)
+table_good : (f : Setting) (a n : ℕ) (targets : List ℕ) → All (IsGood f) (table_tests f a n targets)
 unfolding table_tests
-table_good f a n [] = All-nil IsGood
+table_good f a n [] = All-nil (IsGood f)
 table_good f a n (target ∷ rest) =
-    All-cons IsGood (Cond (equal (open_term table_index) (number n)) (toward f target) (next_test f a (n + 1) rest)) (table_tests f a (n + 1) rest)
-    (two_own of_binary _ (open_term table_index) (number n) (register_own 32) (number_own n), tt) (table_good f a (n + 1) rest)
+    All-cons (IsGood f) (Cond (equal (open_term table_index) (number n)) (toward f target) (next_test f a (n + 1) rest)) (table_tests f a (n + 1) rest)
+    (two_own of_binary _ (open_term table_index) (number n) (register_own 32) (number_own n), tt, tt) (table_good f a (n + 1) rest)
 
-switching_good : (f : Setting) (a : ℕ) (targets : List ℕ) → EndsGood (does_all (table_tests f a 0 targets))
+switching_good : (f : Setting) (a : ℕ) (targets : List ℕ) → EndsGood f (does_all (table_tests f a 0 targets))
 unfolding EndsGood table_tests
-switching_good f a [] = one_good (Basic [] to.Err) (none, tt)
+switching_good f a [] = one_good f (Basic [] to.Err) (none, tt, tt)
 switching_good f a (target ∷ rest) = table_good f a 0 (target ∷ rest)
 
-ending_good : (f : Setting) (a : ℕ) (keeps : Bool) (i : Instr) (flow : Flow) → EndsGood (ending_of f a keeps i flow)
+ending_good : (f : Setting) (a : ℕ) (keeps : Bool) (i : Instr) (flow : Flow) → EndsGood f (ending_of f a keeps i flow)
 unfolding EndsGood ending_of
-ending_good f a keeps i Falls = one_good (Basic (effects a i) (toward f (a + 4))) (effects_own a i, tt)
+ending_good f a keeps i Falls = one_good f (Basic (effects a i) (toward f (a + 4))) (effects_own a i, tt, tt)
 ending_good f a keeps i (Branches target) = branching_good f a keeps i target
 ending_good f a keeps i (Jumps target) = at (leaves f target)
   where
-    at : (b : Bool) → All IsGood (cond b (Call (f.graph_number target) tail_inputs [] (f.at (Following a tail_call_nodes))) (Basic [] (toward f target)) ∷ [])
-    at true = one_good (Call (f.graph_number target) tail_inputs [] (f.at (Following a tail_call_nodes))) ((tail_own, none), (inr refl, refl))
-    at false = one_good (Basic [] (toward f target)) (none, tt)
+    at : (b : Bool) → All (IsGood f) (cond b (Call (f.graph_number target) tail_inputs [] (f.at (Following a tail_call_nodes))) (Basic [] (toward f target)) ∷ [])
+    at true = one_good f (Call (f.graph_number target) tail_inputs [] (f.at (Following a tail_call_nodes))) ((tail_own, none), (inr refl, refl), (target, refl))
+    at false = one_good f (Basic [] (toward f target)) (none, tt, tt)
 ending_good f a keeps i (Calls target) = at (target % 4 == 0)
   where
-    at : (b : Bool) → All IsGood (cond b (Call (f.graph_number target) (call_inputs (past a 4)) [] (f.at (Following a call_nodes))) (Basic [] to.Err) ∷ [])
-    at true = one_good (Call (f.graph_number target) (call_inputs (past a 4)) [] (f.at (Following a call_nodes))) ((call_own (past a 4), none), (inl (past a 4, refl), refl))
-    at false = one_good (Basic [] to.Err) (none, tt)
-ending_good f a keeps i (Links target) = one_good (Basic [] to.Err) (none, tt)
+    at : (b : Bool) → All (IsGood f) (cond b (Call (f.graph_number target) (call_inputs (past a 4)) [] (f.at (Following a call_nodes))) (Basic [] to.Err) ∷ [])
+    at true = one_good f (Call (f.graph_number target) (call_inputs (past a 4)) [] (f.at (Following a call_nodes))) ((call_own (past a 4), none), (inl (past a 4, refl), refl), (target, refl))
+    at false = one_good f (Basic [] to.Err) (none, tt, tt)
+ending_good f a keeps i (Links target) = one_good f (Basic [] to.Err) (none, tt, tt)
 ending_good f a keeps i Returns = tt
 ending_good f a keeps i (Switches jump) = switching_good f a jump.targets
-ending_good f a keeps i Stops = one_good (Basic [] to.Err) (none, tt)
+ending_good f a keeps i Stops = one_good f (Basic [] to.Err) (none, tt, tt)
 
-chain_good : (f : Setting) (a j : ℕ) (tests : List Term) (ending : Ending) (k : ℕ) (node : Node) → All Own tests → EndsGood ending → slice_get (chain f a j tests ending) k ≡ Some node → IsGood node
+chain_good : (f : Setting) (a j : ℕ) (tests : List Term) (ending : Ending) (k : ℕ) (node : Node) → All Own tests → EndsGood f ending → slice_get (chain f a j tests ending) k ≡ Some node → IsGood f node
 unfolding EndsGood chain
 chain_good f a j [] (Does last further) k node all good is =
-    subst IsGood (get_or_from_slice_get (last ∷ further) k node node is) (good k node (slice_get_within (last ∷ further) k node is))
+    subst (IsGood f) (get_or_from_slice_get (last ∷ further) k node node is) (good k node (slice_get_within (last ∷ further) k node is))
 chain_good f a j [] (Goes on) k node all good is = absurd (cc)
 chain_good f a j (test ∷ tests) ending zero node all good is =
     let same : Cond test (onward f a (j + 1) tests ending) to.Err ≡ node = cc in
-    let here : IsGood (Cond test (onward f a (j + 1) tests ending) to.Err) = (All-head Own test tests all, tt) in
-    subst IsGood same here
+    let here : IsGood f (Cond test (onward f a (j + 1) tests ending) to.Err) = (All-head Own test tests all, tt, tt) in
+    subst (IsGood f) same here
 chain_good f a j (test ∷ tests) ending (suc k) node all good is = chain_good f a (j + 1) tests ending k node (All-tail Own test tests all) good is
 
-node_good : (image : Image) (f : Setting) (name : NodeName) (node : Node) → IsNodeAt image f name node → IsGood node
+node_good : (image : Image) (f : Setting) (name : NodeName) (node : Node) → IsNodeAt image f name node → IsGood f node
 unfolding nodes_at
-node_good image f _ _ entrance = (none, tt)
+node_good image f _ _ entrance = (none, tt, tt)
 node_good image f _ node (of_instruction a index keeps i flow _ reach there flow_is kept get) =
     chain_good f a 0 (tests_of f i flow) (ending_of f a keeps i flow) index node (tests_own f i flow) (ending_good f a keeps i flow) get
-node_good image f _ _ (landing a own keeps i flow on reach there flow_is kept long lands) = (none, tt)
+node_good image f _ _ (landing a own keeps i flow on reach there flow_is kept long lands) = (none, tt, tt)
 
-all_good : (image : Image) (f : Setting) (graph : Graph) → IsCodeGraph image f graph → All IsGood graph.nodes
+all_good : (image : Image) (f : Setting) (graph : Graph) → IsCodeGraph image f graph → All (IsGood f) graph.nodes
 all_good image f graph is k d below =
     let at = is.only k below in
     let there : slice_get graph.nodes k ≡ Some at.1 = ap (slice_get graph.nodes) (sym at.3) ∙ is.there at.0 at.1 at.2 in
-    subst IsGood (sym (get_or_from_slice_get graph.nodes k at.1 d there)) (node_good image f at.0 at.1 at.2)
+    subst (IsGood f) (sym (get_or_from_slice_get graph.nodes k at.1 d there)) (node_good image f at.0 at.1 at.2)
 
 pub code_is_own : (image : Image) (f : Setting) (graph : Graph) → IsCodeGraph image f graph → IsOwnGraph is_binary graph
 code_is_own image f graph is k d below = (all_good image f graph is k d below).0
 
 pub code_call_shape : (image : Image) (f : Setting) (graph : Graph) → IsCodeGraph image f graph → All HasCallShape graph.nodes
 code_call_shape image f graph is k d below = (all_good image f graph is k d below).1
+
+pub code_call_number : (image : Image) (f : Setting) (graph : Graph) → IsCodeGraph image f graph → All (HasCallNumber f.graph_number) graph.nodes
+code_call_number image f graph is k d below = (all_good image f graph is k d below).2

@@ -14,6 +14,7 @@ use Rattle.agreement_laws.proofs.Agreement.{simulation_agrees, simulated_valid}
 use Rattle.pair_setup_spec.proofs.Stacks.{one_stack}
 use Rattle.validity_laws.specs.Derivation.{Function, pair_for, AtEntry, IsFunction, IsProvedFunction, AreSides, AreProved, none, one_more}
 use Rattle.validity_laws.specs.Statements.{AreSimulated}
+use Rattle.validity_laws.proofs.InlinedEntry.{at_entry_too}
 use Rattle.validity_laws.proofs.Simulated.{simulated}
 
 pub is_pair : (q : Pair) (g : Function) → AreSides q → IsFunction q g → IsPair (pair_for q g)
@@ -31,13 +32,15 @@ is_pair q g sides is = record {
   bodies = is.bodies;
 }
 
-sides_for : (q : Pair) (g : Function) → AreSides q → AreSides (pair_for q g)
+pub sides_for : (q : Pair) (g : Function) → AreSides q → AreSides (pair_for q g)
 sides_for q g sides = record { of_code = sides.of_code; typed = sides.typed; sizes = sides.sizes; placed = sides.placed }
 
 entry_simulated : (q : Pair) (earlier : List Function) (g : Function) → AreSides q → AreSimulated q earlier → IsProvedFunction q earlier g → IsSimulatedAtEntry (pair_for q g)
 entry_simulated q earlier g sides right proved zone =
-    simulated (pair_for q g) (is_pair q g sides proved.function) (sides_for q g sides) proved.small earlier right zone AtEntry (entry_frame (pair_for q g)).start [] [] proved.proved []
-    (sym (append-nil (entry_premises (pair_for q g))))
+    let is = is_pair q g sides proved.function in
+    at_entry_too (pair_for q g) zone is proved.base proved.inlined
+    (simulated (pair_for q g) is (sides_for q g sides) proved.small proved.base proved.inlined earlier right zone AtEntry (entry_frame (pair_for q g)).start [] [] proved.proved []
+    (sym (append-nil (entry_premises (pair_for q g)))))
 
 all_simulated : (q : Pair) (functions : List Function) → AreSides q → AreProved q functions → AreSimulated q functions
 all_simulated q _ sides none g among = absurd (let less = among.1 in omega arith)

@@ -4,6 +4,10 @@ pub mod CodeSpeaks
 pub mod PlainLines
 pub mod SourceSpeaks
 pub mod SourceGraphs
+pub mod InlinedSides
+pub mod InlinedCode
+pub mod InlinedSource
+pub mod InlinedEntry
 pub mod Simulated
 pub mod Functions
 pub mod Parts
@@ -17,6 +21,8 @@ pub mod Graphs
 pub mod CheckFunctions
 pub mod CallTerms
 pub mod Shown
+pub mod Inlinable
+pub mod Unfolding
 pub mod Accepted
 pub mod Proved
 pub mod Excluded

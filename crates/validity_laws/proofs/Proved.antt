@@ -1,5 +1,5 @@
 -- A certificate that is a proof shows that its functions are valid.
-use Rattle.std.proofs.Common.{◌≡◌, true, List, [], ◌∷◌, ◌++◌, map, refl, sym, ap, subst, append_assoc}
+use Rattle.std.proofs.Common.{◌≡◌, ℕ, true, List, [], ◌∷◌, ◌++◌, map, refl, sym, ap, subst, append_assoc}
 use Rattle.std.specs.Prelude.{All}
 use Rattle.std.proofs.lemmas.List.Elements.{All-nil, All-cons, All-head, All-tail}
 use Rattle.cert_text_spec.specs.Derivation as derivation
@@ -7,16 +7,15 @@ use Rattle.cert_text_spec.specs.Derivation.{Derives}
 use Rattle.cert_text_spec.specs.Lines.{Line, Header, Function as Begin, InlineBinary, InlineSource, Leaf, Case, RestrictBinary, RestrictSource, Split, Call, Relation, Log, LogStep, End}
 use Rattle.cert_text_spec.specs.Certificates.{Expected, AHeader, TheParts, BinaryInlines, Fits, after, can_stand}
 use Rattle.agreement_laws.specs.EntryFrame.{Pair}
-use Rattle.cert_check_spec.specs.Verdict.{Listed}
-use Rattle.cert_check_lines_spec.specs.Parts.{Between, AreAccepted, IsPlainLine}
-use Rattle.cert_check_lines_spec.specs.Known.{is_known, AreMembersOf}
-use Rattle.cert_check_lines_spec.proofs.Members as alone
+use Rattle.cert_check_lines_spec.specs.Parts.{Member, Between, AreAccepted, IsPlainLine}
+use Rattle.cert_check_lines_spec.specs.Members.{members_of}
+use Rattle.cert_check_lines_spec.specs.Walk.{IsProof}
+use Rattle.cert_check_lines_spec.specs.Known.{is_known}
 use Rattle.cert_check_lines_spec.proofs.Members.{no_functions}
 use Rattle.cert_check_lines_spec.proofs.Going.{going_is_accepted}
 use Rattle.validity_laws.specs.Derivation.{Function}
 use Rattle.validity_laws.specs.CheckStatements.{AreLines, listed_of, ProofsGiveValidity}
-use Rattle.validity_laws.specs.Shown.{AreNamed}
-use Rattle.validity_laws.specs.Accepted.{Sites, member_of}
+use Rattle.validity_laws.specs.Accepted.{member_for}
 use Rattle.validity_laws.proofs.Accepted.{accepted_is_valid}
 
 -- ---- the last line is the end
@@ -107,22 +106,16 @@ plain_before (line ∷ lines) more known =
 
 -- ---- the functions
 
-no_sites : Pair → Sites
-no_sites q = record { code = λ g. (alone.member_of (listed_of q g)).code; source = λ g. (alone.member_of (listed_of q g)).source }
-
-members_are : (q : Pair) (functions : List Function) → AreMembersOf (map (listed_of q) functions) (map (member_of q (no_sites q)) functions)
-members_are q [] = refl
-members_are q (g ∷ functions) = ap (λ (l : List Listed). listed_of q g ∷ l) (members_are q functions)
-
-none_named : (q : Pair) (functions : List Function) → AreNamed q functions no_functions.named_alike
-none_named q functions = λ h among number alike. absurd (cc)
+members_are : (q : Pair) (firsts : List (List (ℕ × ℕ))) (functions : List Function) → members_of (map (listed_of q firsts) functions) ≡ map (member_for q firsts) functions
+members_are q firsts [] = refl
+members_are q firsts (g ∷ functions) = ap (λ (l : List Member). member_for q firsts g ∷ l) (members_are q firsts functions)
 
 pub proofs_give_validity : ProofsGiveValidity
-proofs_give_validity q functions lines sides file are spelled proof g among named stack =
-    let members = map (member_of q (no_sites q)) functions in
-    let takes = proof no_functions members (members_are q functions) in
+proofs_give_validity q firsts functions lines sides file are named spelled proof g among stack =
+    let members = map (member_for q firsts) functions in
+    let takes = subst (λ (ms : List Member). IsProof no_functions ms is_known lines) (members_are q firsts functions) (proof no_functions) in
     let accepted = going_is_accepted no_functions members is_known lines takes.0 (Between takes.1) takes.2 in
     let so = certificate_ends lines spelled in
-    accepted_is_valid q functions (no_sites q) no_functions so.before (Between takes.1) sides file are (none_named q functions)
+    accepted_is_valid q firsts functions no_functions so.before (Between takes.1) sides file are named
     (plain_before so.before (End ∷ []) (subst (All Known) so.is accepted.1))
-    (subst (λ (l : List Line). AreAccepted no_functions members 0 (Between []) l (Between takes.1)) so.is accepted.0) g among named stack
+    (subst (λ (l : List Line). AreAccepted no_functions members 0 (Between []) l (Between takes.1)) so.is accepted.0) g among stack

@@ -1,11 +1,9 @@
 -- What lines of a part show is proved.
-use Rattle.std.proofs.Common.{◌≡◌, ◌∙◌, ℕ, zero, suc, ◌+◌, ◌^◌, ◌<◌, ◌≤◌, true, List, [], ◌∷◌, ◌++◌, length, map, Bool, Option, Some, slice_get, option_and_then, refl, sym, ap, subst, arith}
+use Rattle.std.proofs.Common.{◌≡◌, ◌∙◌, ℕ, zero, suc, ◌^◌, ◌<◌, ◌≤◌, true, List, [], ◌∷◌, ◌++◌, length, map, Bool, Option, Some, slice_get, option_and_then, refl, sym, ap, subst, arith}
 use Rattle.std.specs.Prelude.{All, Contains, is_some, unwrap_or}
+use Rattle.std.proofs.lemmas.Option.{slice_get_within}
 use Rattle.std.proofs.lemmas.List.Elements.{All-nil, All-cons, All-append, All-head, All-tail, All-contains}
-use Rattle.elf_read_spec.specs.Image.{function_named}
-use Rattle.elf_read_spec.specs.declared.SymbolValues.TheVariants.{One}
 use Rattle.elf_read_spec.proofs.Runs.{runs_are_fixed, runs_have_bytes}
-use Rattle.code_reach_spec.specs.Code.{IsStack}
 use Rattle.term_core_spec.specs.Term.{Term, not_term}
 use Rattle.graph_core_spec.specs.TransitionSystem.{AreCounted}
 use Rattle.graph_core_spec.specs.declared.Mark.{Mark}
@@ -13,26 +11,27 @@ use Rattle.graph_core_spec.specs.Graph as graph
 use Rattle.graph_core_spec.specs.Graph.{Node, Graph, Graphs, IsNode, node_at}
 use Rattle.decompile_laws.specs.Together.{setting}
 use Rattle.c_graph_spec.specs.SourceGraph.{body_number, graph_of, graphs_of}
-use Rattle.c_graph_laws.proofs.ValidGraphs.{all_valid}
 use Rattle.proof_tree_spec.specs.declared.Counts.{Counts}
 use Rattle.proof_tree_spec.specs.declared.Nodes.{Nodes}
 use Rattle.proof_tree_spec.specs.Cuts.{AreCounts, once}
 use Rattle.proof_tree_spec.specs.Proofs.{Points}
 use Rattle.proof_tree_spec.specs.Scope.{IsLine}
-use Rattle.proof_tree_spec.specs.Frames.{Side, Start, Goal, Hold, Frame, binary_marks, source_marks, with_premise, with_binary_bound, with_source_bound, with_goal, goal_at, from_cut, LetsPass, IsClear, IsAllowed}
+use Rattle.proof_tree_spec.specs.Frames.{Start, Goal, Hold, Frame, with_premise, with_binary_bound, with_source_bound, with_goal, goal_at, from_cut, LetsPass, IsClear}
 use Rattle.sim_rules_spec.specs.Systems.{hold_over}
-use Rattle.sim_rules_spec.specs.Sides.{graph_at}
 use Rattle.sim_rules_spec.specs.Rules.{Opening, AreOfLeaf, AreOfBinaryRestrict, AreOfSourceRestrict, IsTrueWith, AreTrueWith}
 use Rattle.sim_rules_spec.specs.Calls.{CallPair, Callee, call_terms, entry_term, return_term, IsTrueAcross}
 use Rattle.sim_rules_spec.specs.Crossing.{IsCallAt, AreCallsAt}
 use Rattle.sim_rules_spec.proofs.Start.{all_at}
 use Rattle.sim_rules_spec.proofs.Truths.{all_left, all_right}
-use Rattle.validity_spec.specs.Claim.{IsValid}
-use Rattle.agreement_laws.specs.EntryFrame.{Pair, place_of, entry_frame, entry_opening, entry_premises, scope_of}
+use Rattle.agreement_laws.specs.EntryFrame.{Pair, place_of, entry_frame, entry_premises}
 use Rattle.agreement_laws.specs.Statements.{IsPair}
-use Rattle.agreement_laws.specs.Callers.{frame_of, callee_of}
+use Rattle.agreement_laws.specs.Callers.{Base, frame_in, callee_of}
+use Rattle.validity_laws.specs.Inlined.{IsInlined}
+use Rattle.validity_laws.proofs.InlinedSides.{IsSideOf}
+use Rattle.validity_laws.proofs.InlinedCode.{IsCodeNode}
+use Rattle.validity_laws.proofs.InlinedSource.{IsSourceNode}
 use Rattle.agreement_laws.proofs.Pairs.{code, body_there, runs_are, plain, extents}
-use Rattle.cert_check_lines_spec.specs.Sites.{CodeBody, SourceBody, Part, Calling, IsCallNode, ArePaired}
+use Rattle.cert_check_lines_spec.specs.Sites.{CodeBody, SourceBody, Part, Calling, ArePaired}
 use Rattle.cert_check_lines_spec.specs.Jobs as lines
 use Rattle.cert_check_lines_spec.specs.Jobs.{pair_of, landing_of}
 use Rattle.cert_check_lines_spec.specs.LineRules.{HasPart, with_test, binary_bounded, source_bounded, mark}
@@ -41,13 +40,14 @@ use Rattle.cert_check_lines_spec.specs.Shown.{IsShown}
 use Rattle.validity_laws.specs.Derivation as derivation
 use Rattle.validity_laws.specs.Derivation.{Function, pair_for, Origin, AtEntry, AtCut, opening, no_zone, stated, start_at, HasCounts, IsCallOf, IsProved, AreSides, IsFunction, IsProvedFunction, AreProved}
 use Rattle.validity_laws.specs.CheckStatements.{IsFile}
-use Rattle.validity_laws.specs.Shown.{called, part_for, AreNamed, HasShownPart, IsGiven, HaveShownParts, none, one_more, ShownIsProved, ShownPartsAreValid}
+use Rattle.validity_laws.specs.Shown.{called, part_for, AreNamed, IsGiven, HaveShownParts, none, one_more, ShownIsProved, ShownPartsAreValid}
 use Rattle.validity_laws.proofs.CheckFunctions.{line_good}
-use Rattle.validity_laws.proofs.Conditions.{IsGoodNode, IsGoodGraph}
+use Rattle.validity_laws.proofs.Conditions.{IsGoodNode}
 use Rattle.validity_laws.proofs.CallTerms.{entry_test, return_test}
 use Rattle.validity_laws.proofs.Functions.{is_pair, functions_valid}
 use Rattle.validity_laws.proofs.Good.{IsTest, AreTests, not_good}
-use Rattle.validity_laws.proofs.Graphs.{code_good, body_graph, body_good, entry_good, obligations_good, binary_bound_good, source_bound_good}
+use Rattle.validity_laws.proofs.Graphs as graphs
+use Rattle.validity_laws.proofs.Graphs.{code_good, body_good, entry_good, obligations_good, binary_bound_good, source_bound_good}
 use Rattle.validity_laws.proofs.Leaves.{AreGoodGoals}
 use Rattle.validity_laws.proofs.PlainLines.{plain_lines}
 use Rattle.validity_laws.proofs.Validity.{goal_true, goal_true_across}
@@ -96,7 +96,7 @@ node_there graphs n k g there less = ap (λ (o : Option Graph). is_some (option_
 -- ---- one function
 
 module _ (q : Pair) (earlier : List Function) (g : Function) (sides : AreSides q) (file : IsFile q) (given : All (IsGiven q) earlier) (function : IsFunction q g) (small : g.stack < 2 ^ 32)
-    (code_bodies : List CodeBody) (source_bodies : List SourceBody) (alike : ℕ → ℕ → Bool) (named : AreNamed q earlier alike) where
+    (base : Base) (inlined : IsInlined (pair_for q g) base) (code_bodies : List CodeBody) (source_bodies : List SourceBody) (alike : ℕ → ℕ → Bool) (named : AreNamed q earlier alike) where
   abbrev p : Pair
   p = pair_for q g
 
@@ -123,8 +123,8 @@ module _ (q : Pair) (earlier : List Function) (g : Function) (sides : AreSides q
 
   -- ---- lines
 
-  lines_good : (path : List ℕ) (list : List Term) → All (IsLine (scope_of p.body) path) list → AreTests list
-  lines_good path list all i d lt = line_good (scope_of p.body) path _ (all i d lt)
+  lines_good : (path : List ℕ) (list : List Term) → All (IsLine base.setting path) list → AreTests list
+  lines_good path list all i d lt = line_good base.setting path _ (all i d lt)
 
   premises : AreTests (entry_premises p)
   premises = entry_good q g sides file function small
@@ -133,7 +133,7 @@ module _ (q : Pair) (earlier : List Function) (g : Function) (sides : AreSides q
 
   -- what is kept from frame to frame
   record IsKept (start : Start) (goals : List Goal) : Type 0 where
-    counts : HasCounts (frame_of p start goals [])
+    counts : HasCounts (frame_in p base start goals [])
     tests : AreTests start.premises
     relations : AreGoodGoals goals
 
@@ -193,11 +193,11 @@ module _ (q : Pair) (earlier : List Function) (g : Function) (sides : AreSides q
   -- ---- calls
 
   module _ (start : Start) (goals : List Goal) (points : Points) (call : Nodes) (binary source : Calling) (path : List ℕ) (callee : Callee) (before later : List Term)
-      (paired : ArePaired part (frame_of p start goals []) points call binary source) (has : HasPart part source callee)
-      (before_lines : All (IsLine (scope_of p.body) path) before) (later_lines : All (IsLine (scope_of p.body) path) later)
-      (closed : shown.AreClosed part (call_terms (stated p) (frame_of p start goals []) (pair_of binary source) callee before later)) where
+      (paired : ArePaired part (frame_in p base start goals []) points call binary source) (has : HasPart part source callee)
+      (before_lines : All (IsLine base.setting path) before) (later_lines : All (IsLine base.setting path) later)
+      (closed : shown.AreClosed part (call_terms (stated p) (frame_in p base start goals []) (pair_of binary source) callee before later)) where
     abbrev f : Frame
-    f = frame_of p start goals []
+    f = frame_in p base start goals []
 
     abbrev found : (h : Function) × Contains earlier h × (called q h ≡ (source.callee, callee))
     found = called_from q earlier source.callee callee has
@@ -232,25 +232,32 @@ module _ (q : Pair) (earlier : List Function) (g : Function) (sides : AreSides q
     source_node : Node
     source_node = graph.Call source.callee source.inputs source.outputs source.landing
 
-    own_graph : slice_get (graphs_of p.unit (place_of p)) (body_number p.body.name p.unit.bodies) ≡ Some (graph_of p.unit (place_of p) p.body)
-    own_graph = body_graph q g sides file function small
+    of_code : IsSideOf (entry_frame p).binary base.binary IsCodeNode
+    of_code = graphs.of_code q g sides file function small base inlined
 
-    binary_here : slice_get (code p is).0.nodes call.binary ≡ Some binary_node
+    of_source : IsSideOf (entry_frame p).source base.source (IsSourceNode p.unit)
+    of_source = graphs.of_source q g sides file function small base inlined
+
+    binary_here : slice_get of_code.graph.nodes call.binary ≡ Some binary_node
     unfolding binary_node
-    binary_here = node_in p.graphs (p.numbering.graph_number p.entry) call.binary (code p is).0 binary_node (code p is).1 paired.binary_calls
+    binary_here = node_in base.binary.graphs base.binary.outermost call.binary of_code.graph binary_node of_code.there paired.binary_calls
 
-    source_here : slice_get (graph_of p.unit (place_of p) p.body).nodes call.source ≡ Some source_node
+    source_here : slice_get of_source.graph.nodes call.source ≡ Some source_node
     unfolding source_node
-    source_here =
-        node_in (graphs_of p.unit (place_of p)) (body_number p.body.name p.unit.bodies) call.source (graph_of p.unit (place_of p) p.body) source_node own_graph paired.source_calls
+    source_here = node_in base.source.graphs base.source.outermost call.source of_source.graph source_node of_source.there paired.source_calls
 
-    binary_valid : graph.IsValid (code p is).0
-    binary_valid = all_at graph.IsValid p.graphs (p.numbering.graph_number p.entry) (code p is).0 is.binary_valid (code p is).1
+    code_there : slice_get base.binary.graphs (q.numbering.graph_number h.entry) ≡ Some (code (pair_for q h) is_h).0
+    code_there =
+        of_code.set.there (q.numbering.graph_number h.entry) (slice_get_within q.graphs (q.numbering.graph_number h.entry) (code (pair_for q h) is_h).0 (code (pair_for q h) is_h).1)
+        ∙ (code (pair_for q h) is_h).1
 
-    source_valid : graph.IsValid (graph_of p.unit (place_of p) p.body)
-    source_valid =
-        all_at graph.IsValid (graphs_of p.unit (place_of p)) (body_number p.body.name p.unit.bodies) (graph_of p.unit (place_of p) p.body)
-        (all_valid p.unit (place_of p) is.placed is.typed is.sizes) own_graph
+    body_in_set : slice_get (graphs_of q.unit (place_of q)) (body_number h.body.name q.unit.bodies) ≡ Some (graph_of q.unit (place_of q) h.body)
+    body_in_set = body_there (graph_of q.unit (place_of q)) q.unit.bodies h.body.name h.body given_h.0.body_is
+
+    source_there : slice_get base.source.graphs (body_number h.body.name q.unit.bodies) ≡ Some (graph_of q.unit (place_of q) h.body)
+    source_there =
+        of_source.set.there (body_number h.body.name q.unit.bodies)
+        (slice_get_within (graphs_of q.unit (place_of q)) (body_number h.body.name q.unit.bodies) (graph_of q.unit (place_of q) h.body) body_in_set) ∙ body_in_set
 
     binary_at : IsCallAt f.binary call.binary binary.inputs binary.outputs binary.landing
     unfolding binary_node
@@ -258,9 +265,9 @@ module _ (q : Pair) (earlier : List Function) (g : Function) (sides : AreSides q
       callee = binary.callee;
       graph = (code (pair_for q h) is_h).0;
       here = paired.binary_calls;
-      there = ap (slice_get p.graphs) entry_is ∙ (code (pair_for q h) is_h).1;
-      lands = node_there p.graphs (p.numbering.graph_number p.entry) binary.landing (code p is).0 (code p is).1
-          (all_at (IsNode (length (code p is).0.nodes)) (code p is).0.nodes call.binary binary_node binary_valid.nodes binary_here).2;
+      there = ap (slice_get base.binary.graphs) entry_is ∙ code_there;
+      lands = node_there base.binary.graphs base.binary.outermost binary.landing of_code.graph of_code.there
+          (all_at (IsNode (length of_code.graph.nodes)) of_code.graph.nodes call.binary binary_node of_code.valid.nodes binary_here).2;
     }
 
     source_at : IsCallAt f.source call.source source.inputs source.outputs source.landing
@@ -269,9 +276,9 @@ module _ (q : Pair) (earlier : List Function) (g : Function) (sides : AreSides q
       callee = source.callee;
       graph = graph_of q.unit (place_of q) h.body;
       here = paired.source_calls;
-      there = ap (slice_get (graphs_of q.unit (place_of q))) (sym number_is) ∙ body_there (graph_of q.unit (place_of q)) q.unit.bodies h.body.name h.body given_h.0.body_is;
-      lands = node_there (graphs_of p.unit (place_of p)) (body_number p.body.name p.unit.bodies) source.landing (graph_of p.unit (place_of p) p.body) own_graph
-          (all_at (IsNode (length (graph_of p.unit (place_of p) p.body).nodes)) (graph_of p.unit (place_of p) p.body).nodes call.source source_node source_valid.nodes source_here).2;
+      there = ap (slice_get base.source.graphs) (sym number_is) ∙ source_there;
+      lands = node_there base.source.graphs base.source.outermost source.landing of_source.graph of_source.there
+          (all_at (IsNode (length of_source.graph.nodes)) of_source.graph.nodes call.source source_node of_source.valid.nodes source_here).2;
     }
 
     abbrev at_call : Hold
@@ -293,13 +300,13 @@ module _ (q : Pair) (earlier : List Function) (g : Function) (sides : AreSides q
     -- what the graphs bind there is well sorted
     binary_bindings : IsGoodNode binary_node
     binary_bindings =
-        code_good q g sides file function small call.binary binary_node
-        (ap (λ (o : Option Graph). slice_get (unwrap_or o graph.empty).nodes call.binary) (code p is).1 ∙ binary_here)
+        code_good q g sides file function small base inlined call.binary binary_node
+        (ap (λ (o : Option Graph). slice_get (unwrap_or o graph.empty).nodes call.binary) of_code.there ∙ binary_here)
 
     source_bindings : IsGoodNode source_node
     source_bindings =
-        body_good q g sides file function small call.source source_node
-        (ap (λ (o : Option Graph). slice_get (unwrap_or o graph.empty).nodes call.source) own_graph ∙ source_here)
+        body_good q g sides file function small base inlined call.source source_node
+        (ap (λ (o : Option Graph). slice_get (unwrap_or o graph.empty).nodes call.source) of_source.there ∙ source_here)
 
     abbrev pair : CallPair
     pair = pair_of binary source
@@ -320,7 +327,7 @@ module _ (q : Pair) (earlier : List Function) (g : Function) (sides : AreSides q
         goal_true_across (stated p) p.numbering.runs (runs_have_bytes p.image p.numbering.runs file.bytes (runs_are p is)) (runs_are_fixed p.image p.numbering.runs (runs_are p is))
         (return_term (stated p) f pair (callee_of (pair_for q h)) before later)
         (return_test p small (pair_for q h) given_h.1 (extents (pair_for q h) is_h).result pair source_bindings.1 f before later premises (lines_good path before before_lines)
-        (lines_good path later later_lines) (plain_lines p.body path later later_lines))
+        (lines_good path later later_lines) (plain_lines base.setting inlined.setting path later later_lines))
         (All-head (shown.IsClosed part) (return_term (stated p) f pair (callee_of (pair_for q h)) before later) []
         (All-tail (shown.IsClosed part) (entry_term (stated p) f pair (callee_of (pair_for q h)) before) (return_term (stated p) f pair (callee_of (pair_for q h)) before later ∷ []) closed_h))
 
@@ -339,38 +346,38 @@ module _ (q : Pair) (earlier : List Function) (g : Function) (sides : AreSides q
 
   -- ---- the tree
 
-  shown_proved : (origin : lines.Origin) (f : Frame) (start : Start) (goals : List Goal) → IsShown part origin f → f ≡ frame_of p start goals [] → IsKept start goals
-      → IsProved p earlier (to_origin origin) start goals []
+  shown_proved : (origin : lines.Origin) (f : Frame) (start : Start) (goals : List Goal) → IsShown part origin f → f ≡ frame_in p base start goals [] → IsKept start goals
+      → IsProved p base earlier (to_origin origin) start goals []
   shown_proved _ _ start goals (shown.leaf origin f terms are closed) same kept =
-      let here : AreOfLeaf (stated p) (opening p no_zone (to_origin origin)) (frame_of p start goals []) terms =
-      subst (λ (o : Opening). AreOfLeaf (stated p) o (frame_of p start goals []) terms) (opening_is origin) (subst (λ (e : Frame). AreOfLeaf (stated p) (lines.opening part origin) e terms) same are) in
+      let here : AreOfLeaf (stated p) (opening p no_zone (to_origin origin)) (frame_in p base start goals []) terms =
+      subst (λ (o : Opening). AreOfLeaf (stated p) o (frame_in p base start goals []) terms) (opening_is origin) (subst (λ (e : Frame). AreOfLeaf (stated p) (lines.opening part origin) e terms) same are) in
       derivation.leaf (to_origin origin) start goals [] terms kept.counts here
-      (all_true terms (obligations_good q g sides file function small (to_origin origin) start goals terms kept.tests kept.relations here) closed)
+      (all_true terms (obligations_good q g sides file function small base inlined (to_origin origin) start goals terms kept.tests kept.relations here) closed)
   shown_proved _ _ start goals (shown.case origin f test line holding failing) same kept =
-      let here : IsLine (scope_of p.body) start.path test = subst (λ (e : Frame). IsLine e.setting e.start.path test) same line in
-      let good = line_good (scope_of p.body) start.path test here in
+      let here : IsLine base.setting start.path test = subst (λ (e : Frame). IsLine e.setting e.start.path test) same line in
+      let good = line_good base.setting start.path test here in
       derivation.case (to_origin origin) start goals [] test here
       (shown_proved origin (with_test f test) (with_premise start test) goals holding (ap (λ (e : Frame). with_test e test) same) (with_test_kept start goals test good kept))
       (shown_proved origin (with_test f (not_term test)) (with_premise start (not_term test)) goals failing (ap (λ (e : Frame). with_test e (not_term test)) same)
       (with_test_kept start goals (not_term test) (not_good test good) kept))
   shown_proved _ _ start goals (shown.restrict_binary origin f node count terms some are closed rest) same kept =
-      let here : AreOfBinaryRestrict (opening p no_zone (to_origin origin)) (frame_of p start goals []) (mark node count) terms =
-      subst (λ (o : Opening). AreOfBinaryRestrict o (frame_of p start goals []) (mark node count) terms) (opening_is origin)
+      let here : AreOfBinaryRestrict (opening p no_zone (to_origin origin)) (frame_in p base start goals []) (mark node count) terms =
+      subst (λ (o : Opening). AreOfBinaryRestrict o (frame_in p base start goals []) (mark node count) terms) (opening_is origin)
       (subst (λ (e : Frame). AreOfBinaryRestrict (lines.opening part origin) e (mark node count) terms) same are) in
       derivation.binary_bound (to_origin origin) start goals [] (mark node count) terms kept.counts some here
-      (all_true terms (binary_bound_good q g sides file function small (to_origin origin) start goals (mark node count) terms kept.tests here) closed)
+      (all_true terms (binary_bound_good q g sides file function small base inlined (to_origin origin) start goals (mark node count) terms kept.tests here) closed)
       (shown_proved origin (binary_bounded f (mark node count)) (with_binary_bound start (mark node count)) goals rest (ap (λ (e : Frame). binary_bounded e (mark node count)) same)
       (binary_bound_kept start goals (mark node count) some kept))
   shown_proved _ _ start goals (shown.restrict_source origin f node count terms some are closed rest) same kept =
-      let here : AreOfSourceRestrict (opening p no_zone (to_origin origin)) (frame_of p start goals []) (mark node count) terms =
-      subst (λ (o : Opening). AreOfSourceRestrict o (frame_of p start goals []) (mark node count) terms) (opening_is origin)
+      let here : AreOfSourceRestrict (opening p no_zone (to_origin origin)) (frame_in p base start goals []) (mark node count) terms =
+      subst (λ (o : Opening). AreOfSourceRestrict o (frame_in p base start goals []) (mark node count) terms) (opening_is origin)
       (subst (λ (e : Frame). AreOfSourceRestrict (lines.opening part origin) e (mark node count) terms) same are) in
       derivation.source_bound (to_origin origin) start goals [] (mark node count) terms kept.counts some here
-      (all_true terms (source_bound_good q g sides file function small (to_origin origin) start goals (mark node count) terms kept.tests here) closed)
+      (all_true terms (source_bound_good q g sides file function small base inlined (to_origin origin) start goals (mark node count) terms kept.tests here) closed)
       (shown_proved origin (source_bounded f (mark node count)) (with_source_bound start (mark node count)) goals rest (ap (λ (e : Frame). source_bounded e (mark node count)) same)
       (source_bound_kept start goals (mark node count) some kept))
   shown_proved _ _ start goals (shown.split origin f nodes path enter step list some_enter some_step lets are enters steps) same kept =
-      let here : All (IsLine (scope_of p.body) path) list = subst (λ (e : Frame). shown.AreLines e path list) same are in
+      let here : All (IsLine base.setting path) list = subst (λ (e : Frame). shown.AreLines e path list) same are in
       let tests = lines_good path list here in
       derivation.split (to_origin origin) start goals [] (record { nodes = nodes; relation = list }) enter step path kept.counts some_enter some_step
       (subst (λ (e : Frame). LetsPass e nodes) same lets)
@@ -380,8 +387,8 @@ module _ (q : Pair) (earlier : List Function) (g : Function) (sides : AreSides q
       (ap (λ (e : Frame). with_goal (from_cut e nodes path list) (goal_at nodes step list)) same)
       (goal_kept (start_at p nodes path list) goals nodes step list some_step tests (cut_kept start goals nodes path list tests kept)))
   shown_proved _ _ start goals (shown.call origin f points call binary source path callee before later paired has allowed before_are later_are closed first second) same kept =
-      let before_lines : All (IsLine (scope_of p.body) path) before = subst (λ (e : Frame). shown.AreLines e path before) same before_are in
-      let later_lines : All (IsLine (scope_of p.body) path) later = subst (λ (e : Frame). shown.AreLines e path later) same later_are in
+      let before_lines : All (IsLine base.setting path) before = subst (λ (e : Frame). shown.AreLines e path before) same before_are in
+      let later_lines : All (IsLine base.setting path) later = subst (λ (e : Frame). shown.AreLines e path later) same later_are in
       let lets = subst (λ (e : Frame). LetsPass e call × IsClear e (landing_of binary source)) same allowed in
       derivation.call (to_origin origin) start goals [] (record { nodes = call; relation = before }) (record { nodes = landing_of binary source; relation = later }) path kept.counts lets.0 lets.1
       (is_call start goals points call binary source path callee before later (subst (λ (e : Frame). ArePaired part e points call binary source) same paired) has before_lines later_lines
@@ -399,18 +406,20 @@ module _ (q : Pair) (earlier : List Function) (g : Function) (sides : AreSides q
     relations = All-nil (λ (h : Goal). AreTests h.relation);
   }
 
-  pub part_proved : IsShown part lines.AtEntry (entry_frame p) → IsProvedFunction q earlier g
+  pub part_proved : IsShown part lines.AtEntry (frame_in p base (entry_frame p).start [] []) → IsProvedFunction q earlier g
   part_proved is_shown = record {
     function = function;
     small = small;
-    proved = shown_proved lines.AtEntry (entry_frame p) (entry_frame p).start [] is_shown refl entry_kept;
+    base = base;
+    inlined = inlined;
+    proved = shown_proved lines.AtEntry (frame_in p base (entry_frame p).start [] []) (entry_frame p).start [] is_shown refl entry_kept;
   }
 
 -- ---- the laws
 
 pub shown_is_proved : ShownIsProved
 shown_is_proved q earlier g sides file given is has =
-    part_proved q earlier g sides file given is.0 is.1 has.code has.source has.alike has.named has.shown
+    part_proved q earlier g sides file given is.0 is.1 has.base has.inlined has.code has.source has.alike has.named has.shown
 
 all_proved : (q : Pair) (functions : List Function) → AreSides q → IsFile q → All (IsGiven q) functions → HaveShownParts q functions → AreProved q functions
 all_proved q _ sides file given none = derivation.none

@@ -20,18 +20,17 @@ use Rattle.graph_core_spec.proofs.Walks.{is_system}
 use Rattle.decompile_laws.specs.Together.{setting}
 use Rattle.c_token_spec.specs.Words.{entry_of}
 use Rattle.c_types_spec.specs.declared.Scalar.{Scalar}
-use Rattle.c_types_spec.specs.Core.{FunctionType, type_of}
+use Rattle.c_types_spec.specs.Core.{FunctionType}
 use Rattle.c_graph_spec.specs.State.{result}
-use Rattle.c_graph_spec.specs.SourceGraph.{body_number, setting_of, graph_of, graphs_of}
 use Rattle.proof_tree_spec.specs.declared.Counts.{Counts}
 use Rattle.proof_tree_spec.specs.Cuts as cuts
-use Rattle.proof_tree_spec.specs.Cuts.{AreCounts, Passes, IsKept, IsOver, Splits, Holds, once}
+use Rattle.proof_tree_spec.specs.Cuts.{AreCounts, Passes, IsKept, IsOver, once}
 use Rattle.proof_tree_spec.specs.Frames.{Start, Goal, Hold, Frame, with_premise, with_binary_bound, with_source_bound, goal_at, LetsPass, IsClear}
 use Rattle.sim_rules_spec.specs.Points.{Convention, same_byte, is_binary, is_source}
 use Rattle.sim_rules_spec.specs.Systems.{Relation, system_at, goal_over, hold_over, frame_over, entry_holds, binary_always, source_always, IsBinaryFine, IsSourceFine, IsSimulated}
 use Rattle.sim_rules_spec.specs.Rules.{AreOfLeaf, AreOfBinaryRestrict, AreOfSourceRestrict, AreOfWait, at_cut}
 use Rattle.sim_rules_spec.specs.Calls.{IsPlainLine, IsGivenTerm}
-use Rattle.sim_rules_spec.specs.Proper.{IsConvention, IsProper, IsOwnNode, IsOwnGraph, Opens}
+use Rattle.sim_rules_spec.specs.Proper.{IsConvention, IsProper, IsOwnNode, Opens}
 use Rattle.sim_rules_spec.specs.Crossing.{AreCallsAt}
 use Rattle.sim_rules_spec.proofs.AtCut.{cuts_open}
 use Rattle.sim_rules_spec.proofs.Called.{called}
@@ -45,20 +44,22 @@ use Rattle.sim_rules_spec.proofs.Start.{all_at}
 use Rattle.sim_rules_spec.proofs.Wait.{waits}
 use Rattle.sim_cut.proofs.Over as over
 use Rattle.sim_cut.proofs.Soundness.{wait_is_sound}
-use Rattle.agreement_laws.specs.EntryFrame.{Pair, place_of, convention_of, result_term, widened, entry_premises}
+use Rattle.agreement_laws.specs.EntryFrame.{Pair, place_of, convention_of, entry_frame, result_term, widened, entry_premises}
 use Rattle.agreement_laws.specs.Statements.{IsPair, IsSimulatedAtEntry}
-use Rattle.agreement_laws.specs.Callers.{frame_of, callee_of}
+use Rattle.agreement_laws.specs.Callers.{Base, frame_in, IsPassed, callee_of}
 use Rattle.agreement_laws.proofs.EntryOpens.{entry_opens}
-use Rattle.agreement_laws.proofs.Pairs.{size, code, typed_body, body_there, fixed_below}
+use Rattle.agreement_laws.proofs.Pairs.{typed_body, fixed_below}
 use Rattle.agreement_laws.proofs.RightCallee.{agree}
 use Rattle.validity_laws.specs.Derivation.{Function, pair_for, Origin, AtEntry, AtCut, opening, no_zone, stated, start_at, HasCounts, IsCallOf, IsProved, AreSides, leaf, case, binary_bound, source_bound, split, call, hold, wait}
 use Rattle.validity_laws.specs.Statements.{AreSimulated}
 use Rattle.validity_laws.proofs.CodeSpeaks as code_graphs
-use Rattle.validity_laws.proofs.CodeSpeaks.{code_is_own, code_call_shape}
 use Rattle.validity_laws.proofs.EntryLines.{are_entry_lines}
 use Rattle.validity_laws.proofs.PlainLines.{result_given, plain_lines, plain_premises, plain_low, plain_high, plain_memory}
-use Rattle.validity_laws.proofs.SourceGraphs as source_graphs
-use Rattle.validity_laws.proofs.SourceGraphs.{source_is_own, source_call_shape, same_name}
+use Rattle.validity_laws.proofs.SourceGraphs.{node_of_source, same_name}
+use Rattle.validity_laws.specs.Inlined.{IsInlined}
+use Rattle.validity_laws.proofs.InlinedSides.{IsSideOf}
+use Rattle.validity_laws.proofs.InlinedCode.{IsCodeNode, code_side, code_speaks}
+use Rattle.validity_laws.proofs.InlinedSource.{HasPassedShape, IsSourceNode, kind_spoken, source_side, source_speaks}
 
 -- ---- marks of frames over systems
 
@@ -92,32 +93,29 @@ wait_moved : (q : Pair) (zone : Zone) (origin : Origin) (f : Frame) (cut : Hold)
 wait_moved q zone AtEntry f cut terms are = record { binary = are.binary; source = are.source; binary_are = are.binary_are; source_are = are.source_are; terms_are = are.terms_are }
 wait_moved q zone AtCut f cut terms are = record { binary = are.binary; source = are.source; binary_are = are.binary_are; source_are = are.source_are; terms_are = are.terms_are }
 
-module _ (q : Pair) (is : IsPair q) (sides : AreSides q) (small : q.stack < 2 ^ 32) (earlier : List Function) (right : AreSimulated q earlier) (zone : Zone) where
+module _ (q : Pair) (is : IsPair q) (sides : AreSides q) (small : q.stack < 2 ^ 32) (b : Base) (inlined : IsInlined q b) (earlier : List Function) (right : AreSimulated q earlier) (zone : Zone) where
   abbrev c : Convention
   c = convention_of q zone
 
   convention : IsConvention c
   convention = is_convention q.stack zone.low zone.high (result_term q.body.signature.result) (fixed_byte q.image) small (fixed_below q is)
 
-  opens : (origin : Origin) (start : Start) (goals : List Goal) (holds : List Hold) → Opens c (frame_of q start goals holds) (opening q zone origin)
-  opens AtEntry start goals holds =
-      let there = entry_opens q zone is small in
-      record { fixed_below = there.fixed_below; binary_sorts = there.binary_sorts; source_sorts = there.source_sorts; opened = there.opened }
-  opens AtCut start goals holds = cuts_open c (frame_of q start goals holds) convention
+  of_code : IsSideOf (entry_frame q).binary b.binary IsCodeNode
+  of_code = code_side q is sides b inlined
+
+  of_source : IsSideOf (entry_frame q).source b.source (IsSourceNode q.unit)
+  of_source = source_side q is b inlined
+
+  opens : (origin : Origin) (start : Start) (goals : List Goal) (holds : List Hold) → Opens c (frame_in q b start goals holds) (opening q zone origin)
+  opens AtEntry start goals holds = entry_opens q zone (frame_in q b start goals holds) is small
+  opens AtCut start goals holds = cuts_open c (frame_in q b start goals holds) convention
 
   -- ---- the graphs
 
-  source_body : slice_get (graphs_of q.unit (place_of q)) (body_number q.body.name q.unit.bodies) ≡ Some (graph_of q.unit (place_of q) q.body)
-  source_body = body_there (graph_of q.unit (place_of q)) q.unit.bodies q.body.name q.body is.body_is
-
-  is_proper : (start : Start) (goals : List Goal) (holds : List Hold) → HasCounts (frame_of q start goals holds) → IsProper (frame_of q start goals holds)
+  is_proper : (start : Start) (goals : List Goal) (holds : List Hold) → HasCounts (frame_in q b start goals holds) → IsProper (frame_in q b start goals holds)
   is_proper start goals holds counts = record {
-    binary = record {
-      graph = (code q is).0;
-      there = (code q is).1;
-      speaks = λ i d lt. let of = sides.of_code i d lt in code_is_own q.image (setting q.numbering of.0 of.1) _ of.3;
-    };
-    source = record { graph = graph_of q.unit (place_of q) q.body; there = source_body; speaks = source_is_own q.unit (place_of q) is.typed.bodies_typed };
+    binary = record { graph = of_code.graph; there = of_code.there; speaks = code_speaks q is sides b inlined };
+    source = record { graph = of_source.graph; there = of_source.there; speaks = source_speaks q is b inlined };
     binary_goals = counts.binary_goals;
     source_goals = counts.source_goals;
     binary_bounds = counts.binary_bounds;
@@ -128,7 +126,7 @@ module _ (q : Pair) (is : IsPair q) (sides : AreSides q) (small : q.stack < 2 ^ 
 
   module _ (start : Start) (goals : List Goal) (holds : List Hold) (known : Relation) (more : List Term) (begins : start.premises ≡ entry_premises q ++ more) where
     abbrev f : Frame
-    f = frame_of q start goals holds
+    f = frame_in q b start goals holds
 
     abbrev g : systems.Frame State State
     g = frame_over c known f
@@ -176,8 +174,8 @@ module _ (q : Pair) (is : IsPair q) (sides : AreSides q) (small : q.stack < 2 ^ 
     }
 
     split_frame : (cut : Hold) (enter step : Counts) (path : List ℕ) → HasCounts f → AreCounts enter → AreCounts step → LetsPass f cut.nodes
-        → IsSimulated c known (frame_of q start (goals ++ goal_at cut.nodes enter cut.relation ∷ []) holds)
-        → IsSimulated c (at_cut c).known (frame_of q (start_at q cut.nodes path cut.relation) (goals ++ goal_at cut.nodes step cut.relation ∷ []) holds)
+        → IsSimulated c known (frame_in q b start (goals ++ goal_at cut.nodes enter cut.relation ∷ []) holds)
+        → IsSimulated c (at_cut c).known (frame_in q b (start_at q cut.nodes path cut.relation) (goals ++ goal_at cut.nodes step cut.relation ∷ []) holds)
         → IsSimulated c known f
     split_frame cut enter step path counts some_enter some_step lets enters steps =
         over.split g (entry_holds f) (binary_always c f) (source_always c) (system_at f.binary) (system_at f.source) binary_laws source_laws (is_over counts) kept
@@ -185,8 +183,8 @@ module _ (q : Pair) (is : IsPair q) (sides : AreSides q) (small : q.stack < 2 ^ 
         (record { enters = enters_is c f known cut path enter enters; steps = steps_is c f known cut path step steps })
 
     hold_frame : (cut : Hold) (step : Counts) (path : List ℕ) → HasCounts f → AreCounts step → LetsPass f cut.nodes
-        → IsSimulated c known (frame_of q start goals (holds ++ cut ∷ []))
-        → IsSimulated c (at_cut c).known (frame_of q (start_at q cut.nodes path cut.relation) (goals ++ goal_at cut.nodes step cut.relation ∷ []) holds)
+        → IsSimulated c known (frame_in q b start goals (holds ++ cut ∷ []))
+        → IsSimulated c (at_cut c).known (frame_in q b (start_at q cut.nodes path cut.relation) (goals ++ goal_at cut.nodes step cut.relation ∷ []) holds)
         → IsSimulated c known f
     hold_frame cut step path counts some_step lets starts steps =
         over.hold g (entry_holds f) (binary_always c f) (source_always c) (system_at f.binary) (system_at f.source) binary_laws source_laws (is_over counts) kept
@@ -197,8 +195,8 @@ module _ (q : Pair) (is : IsPair q) (sides : AreSides q) (small : q.stack < 2 ^ 
         })
 
     call_frame : (at_call landing : Hold) (path : List ℕ) → HasCounts f → LetsPass f at_call.nodes → IsClear f landing.nodes → IsCallOf q earlier f path at_call landing
-        → IsSimulated c known (frame_of q start (goals ++ goal_at at_call.nodes once at_call.relation ∷ []) holds)
-        → IsSimulated c (at_cut c).known (frame_of q (start_at q landing.nodes path landing.relation) goals holds)
+        → IsSimulated c known (frame_in q b start (goals ++ goal_at at_call.nodes once at_call.relation ∷ []) holds)
+        → IsSimulated c (at_cut c).known (frame_in q b (start_at q landing.nodes path landing.relation) goals holds)
         → IsSimulated c known f
     call_frame at_call landing path counts lets clear of before later =
         over.call g (entry_holds f) (binary_always c f) (source_always c) (system_at f.binary) (system_at f.source) binary_laws source_laws (is_over counts) kept
@@ -211,18 +209,18 @@ module _ (q : Pair) (is : IsPair q) (sides : AreSides q) (small : q.stack < 2 ^ 
           inner = called c known f (callee_of (pair_for q of.function)) at_call landing calls convention code_shape.1
               (record { binary = code_own.0; source = source_own.0 })
               (record {
-                outputs = source_shape.7;
+                outputs = source_shape.given;
                 result = λ t h. callee_result of.function.body.signature.result t h;
                 zone_from = plain_low q.stack;
                 zone_to = plain_high;
-                before_plain = All-append IsPlainLine (entry_premises q) at_call.relation (plain_premises q) (plain_lines q.body path at_call.relation of.before);
-                after_plain = All-append IsPlainLine landing.relation (same_byte c ∷ []) (plain_lines q.body path landing.relation of.later)
+                before_plain = All-append IsPlainLine (entry_premises q) at_call.relation (plain_premises q) (plain_lines b.setting inlined.setting path at_call.relation of.before);
+                after_plain = All-append IsPlainLine landing.relation (same_byte c ∷ []) (plain_lines b.setting inlined.setting path landing.relation of.later)
                     (All-cons IsPlainLine (same_byte c) [] (plain_memory q zone) (All-nil IsPlainLine));
               })
               (record { begins = of.valid.begins; returns = of.valid.returns })
-              (λ x y begin well. agree q of.function.entry of.function.stack of.function.body zone known start goals holds at_call landing calls
-              callee_is.0 callee_is.1 of.binary_callee of.source_callee code_shape.1
-              (record { binary = code_shape.0; arguments = source_shape.1; source = source_shape.4; types = types_are }) x y begin well);
+              (λ x y begin well. agree q b of.function.entry of.function.stack of.function.body zone known start goals holds at_call landing calls
+              of_code.set of_source.set callee_is.0 callee_is.1 of.binary_callee of.source_callee code_shape.1
+              (record { binary = code_shape.0; source = passed }) x y begin well);
           later = later_is c f known landing path later;
         })
       where
@@ -238,39 +236,43 @@ module _ (q : Pair) (is : IsPair q) (sides : AreSides q) (small : q.stack < 2 ^ 
         source_node : Node
         source_node = graph.Call of.calls.source.callee of.calls.source_inputs of.calls.source_outputs landing.nodes.source
 
-        binary_there : slice_get (code q is).0.nodes at_call.nodes.binary ≡ Some binary_node
-        binary_there = node_in q.graphs (q.numbering.graph_number q.entry) at_call.nodes.binary (code q is).0 binary_node (code q is).1 of.calls.binary.here
+        binary_there : slice_get of_code.graph.nodes at_call.nodes.binary ≡ Some binary_node
+        binary_there = node_in b.binary.graphs b.binary.outermost at_call.nodes.binary of_code.graph binary_node of_code.there of.calls.binary.here
 
-        source_there : slice_get (graph_of q.unit (place_of q) q.body).nodes at_call.nodes.source ≡ Some source_node
-        source_there = node_in (graphs_of q.unit (place_of q)) (body_number q.body.name q.unit.bodies) at_call.nodes.source (graph_of q.unit (place_of q) q.body) source_node source_body of.calls.source.here
+        source_there : slice_get of_source.graph.nodes at_call.nodes.source ≡ Some source_node
+        source_there = node_in b.source.graphs b.source.outermost at_call.nodes.source of_source.graph source_node of_source.there of.calls.source.here
+
+        code_node : IsCodeNode binary_node
+        code_node = all_at IsCodeNode of_code.graph.nodes at_call.nodes.binary binary_node of_code.nodes binary_there
+
+        source_call : IsSourceNode q.unit source_node
+        source_call = all_at (IsSourceNode q.unit) of_source.graph.nodes at_call.nodes.source source_node of_source.nodes source_there
 
         code_shape : code_graphs.HasCallShape binary_node
-        code_shape = all_at code_graphs.HasCallShape (code q is).0.nodes at_call.nodes.binary binary_node
-            (code_call_shape q.image (setting q.numbering q.entry (size q is).0) (code q is).0 (code q is).2) binary_there
+        code_shape = code_node.1
 
-        source_shape : source_graphs.HasCallShape q.unit (setting_of q.unit (place_of q) q.body) source_node
-        source_shape = all_at (source_graphs.HasCallShape q.unit (setting_of q.unit (place_of q) q.body)) (graph_of q.unit (place_of q) q.body).nodes at_call.nodes.source source_node
-            (source_call_shape q.unit (place_of q) q.body (typed_body q is)) source_there
+        source_shape : HasPassedShape q.unit source_node
+        source_shape = source_call.1
 
         code_own : IsOwnNode is_binary binary_node
-        code_own = all_at (IsOwnNode is_binary) (code q is).0.nodes at_call.nodes.binary binary_node
-            (code_is_own q.image (setting q.numbering q.entry (size q is).0) (code q is).0 (code q is).2) binary_there
+        code_own = code_node.0
 
         source_own : IsOwnNode is_source source_node
-        source_own = all_at (IsOwnNode is_source) (graph_of q.unit (place_of q) q.body).nodes at_call.nodes.source source_node
-            (all_at (IsOwnGraph is_source) (graphs_of q.unit (place_of q)) (body_number q.body.name q.unit.bodies) (graph_of q.unit (place_of q) q.body)
-            (source_is_own q.unit (place_of q) is.typed.bodies_typed) source_body) source_there
+        source_own = node_of_source source_node (kind_spoken q.unit (place_of q) source_node source_call.0)
 
         same_type : (o : Option FunctionType) (t u : FunctionType) → o ≡ Some t → o ≡ Some u → t ≡ u
         same_type o t u h k = cc
 
         -- the function that the source calls has the type of the callee
-        types_are : map type_of source_shape.1 ≡ of.function.body.signature.parameters
+        types_are : source_shape.type.parameters ≡ of.function.body.signature.parameters
         types_are =
-            let name = same_name q.unit.bodies source_shape.0 of.function.body.name of.function.body callee_is.0.body_is (sym source_shape.3 ∙ of.source_callee) in
+            let name = same_name q.unit.bodies source_shape.function of.function.body.name of.function.body callee_is.0.body_is (sym source_shape.number ∙ of.source_callee) in
             let declared = (typed_body (pair_for q of.function) callee_is.0).declared in
-            let there : entry_of q.unit.functions source_shape.0 ≡ Some of.function.body.signature = ap (entry_of q.unit.functions) name ∙ declared in
-            source_shape.6 ∙ ap (λ (t : FunctionType). t.parameters) (same_type (entry_of q.unit.functions source_shape.0) source_shape.2 of.function.body.signature source_shape.5 there)
+            let there : entry_of q.unit.functions source_shape.function ≡ Some of.function.body.signature = ap (entry_of q.unit.functions) name ∙ declared in
+            ap (λ (t : FunctionType). t.parameters) (same_type (entry_of q.unit.functions source_shape.function) source_shape.type of.function.body.signature source_shape.has_type there)
+
+        passed : IsPassed 0 of.function.body.signature.parameters of.calls.source_inputs
+        passed = subst (λ (types : List Scalar). IsPassed 0 types of.calls.source_inputs) types_are source_shape.passed
 
         callee_result : (o : Option Scalar) (t : Term) → result_term o ≡ Some t → IsGivenTerm t
         callee_result None t h = absurd (cc)
@@ -291,23 +293,23 @@ module _ (q : Pair) (is : IsPair q) (sides : AreSides q) (small : q.stack < 2 ^ 
   more_premises : (start : Start) (more : List Term) (test : Term) → start.premises ≡ entry_premises q ++ more → start.premises ++ test ∷ [] ≡ entry_premises q ++ (more ++ test ∷ [])
   more_premises start more test begins = ap (λ (lines : List Term). lines ++ test ∷ []) begins ∙ append_assoc (entry_premises q) more (test ∷ [])
 
-  pub simulated : (origin : Origin) (start : Start) (goals : List Goal) (holds : List Hold) → IsProved q earlier origin start goals holds
+  pub simulated : (origin : Origin) (start : Start) (goals : List Goal) (holds : List Hold) → IsProved q b earlier origin start goals holds
       → (more : List Term) → start.premises ≡ entry_premises q ++ more
-      → IsSimulated c (opening q zone origin).known (frame_of q start goals holds)
+      → IsSimulated c (opening q zone origin).known (frame_in q b start goals holds)
   simulated _ _ _ _ (leaf origin start goals holds terms counts are valid) more begins =
-      leaf_is_sound c (frame_of q start goals holds) (opening q zone origin) terms (is_proper start goals holds counts) (opens origin start goals holds)
-      (leaf_moved q zone origin (frame_of q start goals holds) terms are) valid
+      leaf_is_sound c (frame_in q b start goals holds) (opening q zone origin) terms (is_proper start goals holds counts) (opens origin start goals holds)
+      (leaf_moved q zone origin (frame_in q b start goals holds) terms are) valid
   simulated _ _ _ _ (case origin start goals holds test line holding failing) more begins =
-      case_is_sound c (frame_of q start goals holds) (opening q zone origin).known test line
+      case_is_sound c (frame_in q b start goals holds) (opening q zone origin).known test line
       (simulated origin (with_premise start test) goals holds holding (more ++ test ∷ []) (more_premises start more test begins))
       (simulated origin (with_premise start (not_term test)) goals holds failing (more ++ not_term test ∷ []) (more_premises start more (not_term test) begins))
   simulated _ _ _ _ (binary_bound origin start goals holds bound terms counts some are valid rest) more begins =
-      binary_restrict_is_sound c (frame_of q start goals holds) (opening q zone origin) bound terms (is_proper start goals holds counts) (opens origin start goals holds) some valid
-      (binary_moved q zone origin (frame_of q start goals holds) bound terms are)
+      binary_restrict_is_sound c (frame_in q b start goals holds) (opening q zone origin) bound terms (is_proper start goals holds counts) (opens origin start goals holds) some valid
+      (binary_moved q zone origin (frame_in q b start goals holds) bound terms are)
       (simulated origin (with_binary_bound start bound) goals holds rest more begins)
   simulated _ _ _ _ (source_bound origin start goals holds bound terms counts some are valid rest) more begins =
-      source_restrict_is_sound c (frame_of q start goals holds) (opening q zone origin) bound terms (is_proper start goals holds counts) (opens origin start goals holds) some valid
-      (source_moved q zone origin (frame_of q start goals holds) bound terms are)
+      source_restrict_is_sound c (frame_in q b start goals holds) (opening q zone origin) bound terms (is_proper start goals holds counts) (opens origin start goals holds) some valid
+      (source_moved q zone origin (frame_in q b start goals holds) bound terms are)
       (simulated origin (with_source_bound start bound) goals holds rest more begins)
   simulated _ _ _ _ (split origin start goals holds cut enter step path counts some_enter some_step lets enters steps) more begins =
       split_frame start goals holds (opening q zone origin).known more begins cut enter step path counts some_enter some_step lets
@@ -322,7 +324,7 @@ module _ (q : Pair) (is : IsPair q) (sides : AreSides q) (small : q.stack < 2 ^ 
       (simulated origin start goals (holds ++ cut ∷ []) starts more begins)
       (simulated AtCut (start_at q cut.nodes path cut.relation) (goals ++ goal_at cut.nodes step cut.relation ∷ []) holds steps cut.relation refl)
   simulated _ _ _ _ (wait origin start goals holds cut terms counts inside same are valid) more begins =
-      wait_is_sound (frame_over c (opening q zone origin).known (frame_of q start goals holds)) (IsBinaryFine c (frame_of q start goals holds)) (IsSourceFine c (frame_of q start goals holds))
+      wait_is_sound (frame_over c (opening q zone origin).known (frame_in q b start goals holds)) (IsBinaryFine c (frame_in q b start goals holds)) (IsSourceFine c (frame_in q b start goals holds))
       (hold_over c cut)
-      (waits c (frame_of q start goals holds) (opening q zone origin) cut terms (is_proper start goals holds counts) (opens origin start goals holds) inside same
-      (wait_moved q zone origin (frame_of q start goals holds) cut terms are) valid)
+      (waits c (frame_in q b start goals holds) (opening q zone origin) cut terms (is_proper start goals holds counts) (opens origin start goals holds) inside same
+      (wait_moved q zone origin (frame_in q b start goals holds) cut terms are) valid)

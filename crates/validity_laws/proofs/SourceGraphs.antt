@@ -18,7 +18,7 @@ use Rattle.c_types_spec.specs.Core.{Core, FunctionType, Body, Typed, Action, Gro
 use Rattle.c_types_spec.specs.HasType as typed
 use Rattle.c_types_spec.specs.HasType.{HasType, HaveTypes, IsTyped, AreTyped, IsTypedBody, scope_of}
 use Rattle.c_run_spec.specs.Calls.{body_named}
-use Rattle.c_graph_spec.specs.State.{width_of, local, is_set, memory, zone_low, zone_high, result, value_constant}
+use Rattle.c_graph_spec.specs.State.{width_of, local, is_set, memory, result, value_constant}
 use Rattle.c_graph_spec.specs.Values.{Object, object, no_object, at_width, value_term}
 use Rattle.c_graph_spec.specs.Guards.{Place, tests, write_tests}
 use Rattle.c_graph_spec.specs.Layout.{Setting, Exits, exits, value_in, truth_in, tests_in, count, first, chain, guarded, binding, set_local, store_tests, memory_stored, argument_tests, inputs, outputs, result_put, selection, case_count, size, entry, otherwise, cases_of, step_entry, nodes, groups_nodes}
@@ -39,6 +39,7 @@ HasCallShape unit f (Cond test on_true on_false) = ⊤
 HasCallShape unit f (graph.Call callee ins outs lands) =
     (function : List ℕ) × (arguments : List Core) × (type : FunctionType) × (callee ≡ f.graph_number function) × (ins ≡ inputs f 0 arguments)
     × (entry_of unit.functions function ≡ Some type) × (map type_of arguments ≡ type.parameters) × All (λ (b : Binding). IsGivenTerm b.term) outs
+    × (place : Option ℕ) × (outs ≡ outputs f function place)
 
 -- ---- nodes whose terms and variables are of the source, with its only memory
 
@@ -62,7 +63,7 @@ of_source v h = (and_parts (is_source v.family) (not (is_source_memory v.family)
 bindings_of_source : (bindings : List Binding) → AreSpokenBindings bindings → AreOwnBindings is_source bindings
 bindings_of_source bindings all = All-weaker IsSpokenBinding (IsOwnBinding is_source) (λ b h. (of_source b.variable h.0, λ v o. of_source v (h.1 v o))) bindings all
 
-node_of_source : (node : Node) → IsSpokenNode node → IsOwnNode is_source node
+pub node_of_source : (node : Node) → IsSpokenNode node → IsOwnNode is_source node
 node_of_source (Basic bindings next) h = bindings_of_source bindings h
 node_of_source (Cond test on_true on_false) h = λ v o. of_source v (h v o)
 node_of_source (graph.Call callee ins outs lands) h = (bindings_of_source ins h.0, bindings_of_source outs h.1)
@@ -116,9 +117,7 @@ module _ (unit : Typed) (f : Setting) where
 
   inputs_own : (index : ℕ) (list : List Core) → AreSpokenBindings (inputs f index list)
   unfolding inputs
-  inputs_own index [] =
-      All-cons IsSpokenBinding (binding zone_low (open_term zone_low)) (binding zone_high (open_term zone_high) ∷ []) (refl, open_own is_spoken zone_low refl)
-      (All-cons IsSpokenBinding (binding zone_high (open_term zone_high)) [] (refl, open_own is_spoken zone_high refl) none)
+  inputs_own index [] = none
   inputs_own index (x ∷ list) =
       All-append IsSpokenBinding (set_local index (type_of x) (value_in f x)) (inputs f (suc index) list) (set_own index (type_of x) (value_in f x) (word_own x)) (inputs_own (suc index) list)
 
@@ -180,7 +179,7 @@ module _ (unit : Typed) (f : Setting) where
           All-append IsGood (guarded (argument_tests f arguments) at node) (Basic [] to ∷ [])
           (guarded_good (argument_tests f arguments) at node (arguments_own arguments) (
             (inputs_own 0 arguments, outputs_own place f.local_type (f.function_type function).result),
-            (function, arguments, type, refl, refl, named, types_are arguments type.parameters haves, outputs_given place f.local_type (f.function_type function).result),
+            (function, arguments, type, refl, refl, named, types_are arguments type.parameters haves, outputs_given place f.local_type (f.function_type function).result, place, refl),
           ))
           (one_node (Basic [] to) (none, tt))
       nodes_good _ (typed.choice test t a b has ta tb) at to e =

@@ -27,8 +27,9 @@ use Rattle.sim_rules_spec.specs.Systems.{hold_over}
 use Rattle.sim_rules_spec.specs.Rules.{Opening, AreOfLeaf, AreOfBinaryRestrict, AreOfSourceRestrict, AreOfWait, AreTrueWith, at_cut}
 use Rattle.sim_rules_spec.specs.Calls.{AreTrueOfCall}
 use Rattle.sim_rules_spec.specs.Crossing.{AreCallsAt, pair_of}
-use Rattle.agreement_laws.specs.EntryFrame.{Pair, place_of, convention_of, entry_frame, entry_opening, scope_of}
-use Rattle.agreement_laws.specs.Callers.{function_of, callee_of, frame_of}
+use Rattle.agreement_laws.specs.EntryFrame.{Pair, place_of, convention_of, entry_frame, entry_opening}
+use Rattle.validity_laws.specs.Inlined.{IsInlined}
+use Rattle.agreement_laws.specs.Callers.{function_of, callee_of, Base, frame_in}
 
 -- a function of the executable and of the unit: its entry, how much stack it takes, and its body
 pub record Function : Type 0 where
@@ -77,46 +78,46 @@ pub record IsCallOf (q : Pair) (earlier : List Function) (f : Frame) (path : Lis
   pub calls : AreCallsAt f (hold_over (stated q) call) (hold_over (stated q) landing)
   pub binary_callee : calls.binary.callee ≡ q.numbering.graph_number function.entry
   pub source_callee : calls.source.callee ≡ body_number function.body.name q.unit.bodies
-  pub before : All (IsLine (scope_of q.body) path) call.relation
-  pub later : All (IsLine (scope_of q.body) path) landing.relation
+  pub before : All (IsLine f.setting path) call.relation
+  pub later : All (IsLine f.setting path) landing.relation
   pub valid : AreTrueOfCall (stated q) f (pair_of f (hold_over (stated q) call) (hold_over (stated q) landing) calls) (callee_of (pair_for q function)) call.relation landing.relation
 
 -- ---- proofs
 
--- the frame of the function with this start, goals and holds is proved; calls are of earlier functions
-pub data IsProved (q : Pair) (earlier : List Function) : Origin → Start → List Goal → List Hold → Type 0 where
-  leaf : (origin : Origin) (start : Start) (goals : List Goal) (holds : List Hold) (terms : List Term) → HasCounts (frame_of q start goals holds)
-      → AreOfLeaf (stated q) (opening q no_zone origin) (frame_of q start goals holds) terms → AreTrueWith (stated q) terms
-      → IsProved q earlier origin start goals holds
-  case : (origin : Origin) (start : Start) (goals : List Goal) (holds : List Hold) (test : Term) → IsLine (scope_of q.body) start.path test
-      → IsProved q earlier origin (with_premise start test) goals holds → IsProved q earlier origin (with_premise start (not_term test)) goals holds
-      → IsProved q earlier origin start goals holds
-  binary_bound : (origin : Origin) (start : Start) (goals : List Goal) (holds : List Hold) (bound : Mark) (terms : List Term) → HasCounts (frame_of q start goals holds)
-      → 1 ≤ bound.count → AreOfBinaryRestrict (opening q no_zone origin) (frame_of q start goals holds) bound terms → AreTrueWith (stated q) terms
-      → IsProved q earlier origin (with_binary_bound start bound) goals holds → IsProved q earlier origin start goals holds
-  source_bound : (origin : Origin) (start : Start) (goals : List Goal) (holds : List Hold) (bound : Mark) (terms : List Term) → HasCounts (frame_of q start goals holds)
-      → 1 ≤ bound.count → AreOfSourceRestrict (opening q no_zone origin) (frame_of q start goals holds) bound terms → AreTrueWith (stated q) terms
-      → IsProved q earlier origin (with_source_bound start bound) goals holds → IsProved q earlier origin start goals holds
+-- the frame over these graphs with this start, goals and holds is proved; calls are of earlier functions
+pub data IsProved (q : Pair) (b : Base) (earlier : List Function) : Origin → Start → List Goal → List Hold → Type 0 where
+  leaf : (origin : Origin) (start : Start) (goals : List Goal) (holds : List Hold) (terms : List Term) → HasCounts (frame_in q b start goals holds)
+      → AreOfLeaf (stated q) (opening q no_zone origin) (frame_in q b start goals holds) terms → AreTrueWith (stated q) terms
+      → IsProved q b earlier origin start goals holds
+  case : (origin : Origin) (start : Start) (goals : List Goal) (holds : List Hold) (test : Term) → IsLine b.setting start.path test
+      → IsProved q b earlier origin (with_premise start test) goals holds → IsProved q b earlier origin (with_premise start (not_term test)) goals holds
+      → IsProved q b earlier origin start goals holds
+  binary_bound : (origin : Origin) (start : Start) (goals : List Goal) (holds : List Hold) (bound : Mark) (terms : List Term) → HasCounts (frame_in q b start goals holds)
+      → 1 ≤ bound.count → AreOfBinaryRestrict (opening q no_zone origin) (frame_in q b start goals holds) bound terms → AreTrueWith (stated q) terms
+      → IsProved q b earlier origin (with_binary_bound start bound) goals holds → IsProved q b earlier origin start goals holds
+  source_bound : (origin : Origin) (start : Start) (goals : List Goal) (holds : List Hold) (bound : Mark) (terms : List Term) → HasCounts (frame_in q b start goals holds)
+      → 1 ≤ bound.count → AreOfSourceRestrict (opening q no_zone origin) (frame_in q b start goals holds) bound terms → AreTrueWith (stated q) terms
+      → IsProved q b earlier origin (with_source_bound start bound) goals holds → IsProved q b earlier origin start goals holds
   split : (origin : Origin) (start : Start) (goals : List Goal) (holds : List Hold) (cut : Hold) (enter step : Counts) (path : List ℕ)
-      → HasCounts (frame_of q start goals holds) → AreCounts enter → AreCounts step → LetsPass (frame_of q start goals holds) cut.nodes
-      → IsProved q earlier origin start (goals ++ goal_at cut.nodes enter cut.relation ∷ []) holds
-      → IsProved q earlier AtCut (start_at q cut.nodes path cut.relation) (goals ++ goal_at cut.nodes step cut.relation ∷ []) holds
-      → IsProved q earlier origin start goals holds
+      → HasCounts (frame_in q b start goals holds) → AreCounts enter → AreCounts step → LetsPass (frame_in q b start goals holds) cut.nodes
+      → IsProved q b earlier origin start (goals ++ goal_at cut.nodes enter cut.relation ∷ []) holds
+      → IsProved q b earlier AtCut (start_at q cut.nodes path cut.relation) (goals ++ goal_at cut.nodes step cut.relation ∷ []) holds
+      → IsProved q b earlier origin start goals holds
   call : (origin : Origin) (start : Start) (goals : List Goal) (holds : List Hold) (call landing : Hold) (path : List ℕ)
-      → HasCounts (frame_of q start goals holds) → LetsPass (frame_of q start goals holds) call.nodes → IsClear (frame_of q start goals holds) landing.nodes
-      → IsCallOf q earlier (frame_of q start goals holds) path call landing
-      → IsProved q earlier origin start (goals ++ goal_at call.nodes once call.relation ∷ []) holds
-      → IsProved q earlier AtCut (start_at q landing.nodes path landing.relation) goals holds
-      → IsProved q earlier origin start goals holds
+      → HasCounts (frame_in q b start goals holds) → LetsPass (frame_in q b start goals holds) call.nodes → IsClear (frame_in q b start goals holds) landing.nodes
+      → IsCallOf q earlier (frame_in q b start goals holds) path call landing
+      → IsProved q b earlier origin start (goals ++ goal_at call.nodes once call.relation ∷ []) holds
+      → IsProved q b earlier AtCut (start_at q landing.nodes path landing.relation) goals holds
+      → IsProved q b earlier origin start goals holds
   hold : (origin : Origin) (start : Start) (goals : List Goal) (holds : List Hold) (cut : Hold) (step : Counts) (path : List ℕ)
-      → HasCounts (frame_of q start goals holds) → AreCounts step → LetsPass (frame_of q start goals holds) cut.nodes
-      → IsProved q earlier origin start goals (holds ++ cut ∷ [])
-      → IsProved q earlier AtCut (start_at q cut.nodes path cut.relation) (goals ++ goal_at cut.nodes step cut.relation ∷ []) holds
-      → IsProved q earlier origin start goals holds
-  wait : (origin : Origin) (start : Start) (goals : List Goal) (holds : List Hold) (cut : Hold) (terms : List Term) → HasCounts (frame_of q start goals holds)
+      → HasCounts (frame_in q b start goals holds) → AreCounts step → LetsPass (frame_in q b start goals holds) cut.nodes
+      → IsProved q b earlier origin start goals (holds ++ cut ∷ [])
+      → IsProved q b earlier AtCut (start_at q cut.nodes path cut.relation) (goals ++ goal_at cut.nodes step cut.relation ∷ []) holds
+      → IsProved q b earlier origin start goals holds
+  wait : (origin : Origin) (start : Start) (goals : List Goal) (holds : List Hold) (cut : Hold) (terms : List Term) → HasCounts (frame_in q b start goals holds)
       → Contains holds cut → cut.nodes.source ≡ start.nodes.source
-      → AreOfWait (stated q) (opening q no_zone origin) (frame_of q start goals holds) cut terms → AreTrueWith (stated q) terms
-      → IsProved q earlier origin start goals holds
+      → AreOfWait (stated q) (opening q no_zone origin) (frame_in q b start goals holds) cut terms → AreTrueWith (stated q) terms
+      → IsProved q b earlier origin start goals holds
 
 -- ---- functions
 
@@ -136,11 +137,13 @@ pub record IsFunction (q : Pair) (g : Function) : Type 0 where
   pub body_is : body_named q.unit.bodies g.body.name ≡ Some g.body
   pub bodies : (other : List ℕ) → Reaches q.unit g.body.name other → IsSome (body_named q.unit.bodies other)
 
--- a function is proved: the frame at its entry is
+-- a function is proved: the frame at its entry is, over its graphs or with calls inlined in them
 pub record IsProvedFunction (q : Pair) (earlier : List Function) (g : Function) : Type 0 where
   pub function : IsFunction q g
   pub small : g.stack < 2 ^ 32
-  pub proved : IsProved (pair_for q g) earlier AtEntry (entry_frame (pair_for q g)).start [] []
+  pub base : Base
+  pub inlined : IsInlined (pair_for q g) base
+  pub proved : IsProved (pair_for q g) base earlier AtEntry (entry_frame (pair_for q g)).start [] []
 
 -- each is proved after those before it
 pub data AreProved (q : Pair) : List Function → Type 0 where

@@ -1,5 +1,5 @@
 -- What the laws of trails say.
-use Rattle.std.specs.Prelude.{Bool, true, false, ◌≡◌, List, map, All}
+use Rattle.std.specs.Prelude.{ℕ, Bool, true, false, ◌≡◌, List, map, All}
 use Rattle.memory_spec.specs.Runs.{AreBytes}
 use Rattle.clause_check_spec.specs.Log.{Step}
 use Rattle.agreement_laws.specs.EntryFrame.{Pair}
@@ -26,4 +26,5 @@ pub record IsSorted (f : Listed) : Type 0 where
   pub bytes : AreBytes f.runs
 
 abbrev pub FunctionsHaveTruths : Type 0
-FunctionsHaveTruths = (q : Pair) (functions : List Function) → AreSides q → IsFile q → AreFunctions q functions → All IsSorted (map (listed_of q) functions)
+FunctionsHaveTruths = (q : Pair) (firsts : List (List (ℕ × ℕ))) (functions : List Function) → AreSides q → IsFile q → AreFunctions q functions
+    → All IsSorted (map (listed_of q firsts) functions)

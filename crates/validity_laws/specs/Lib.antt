@@ -1,3 +1,4 @@
+pub mod Inlined
 pub mod Derivation
 pub mod Statements
 pub mod Closed

@@ -7,7 +7,8 @@ use Rattle.c_graph_spec.specs.SourceGraph.{body_number}
 use Rattle.sim_rules_spec.specs.Calls.{Callee}
 use Rattle.validity_spec.specs.Claim.{IsValid}
 use Rattle.agreement_laws.specs.EntryFrame.{Pair, entry_frame, entry_opening}
-use Rattle.agreement_laws.specs.Callers.{callee_of}
+use Rattle.agreement_laws.specs.Callers.{Base, frame_in, callee_of}
+use Rattle.validity_laws.specs.Inlined.{IsInlined}
 use Rattle.cert_check_lines_spec.specs.Sites.{CodeBody, SourceBody, Part}
 use Rattle.cert_check_lines_spec.specs.Jobs as lines
 use Rattle.cert_check_lines_spec.specs.Shown.{IsShown}
@@ -36,18 +37,20 @@ abbrev pub AreNamed : Pair → List Function → (alike : ℕ → ℕ → Bool) 
 AreNamed q earlier alike = (h : Function) → Contains earlier h → (number : ℕ) → alike number (body_number h.body.name q.unit.bodies) ≡ true
     → number ≡ q.numbering.graph_number h.entry
 
--- the lines of a part of the function show the frame at its entry
+-- the lines of a part of the function show the frame at its entry, over its graphs or with calls inlined in them
 pub record HasShownPart (q : Pair) (earlier : List Function) (g : Function) : Type 0 where
+  pub base : Base
+  pub inlined : IsInlined (pair_for q g) base
   pub code : List CodeBody
   pub source : List SourceBody
   pub alike : ℕ → ℕ → Bool
   pub named : AreNamed q earlier alike
-  pub shown : IsShown (part_for q g earlier code source alike) lines.AtEntry (entry_frame (pair_for q g))
+  pub shown : IsShown (part_for q g earlier code source alike) lines.AtEntry (frame_in (pair_for q g) base (entry_frame (pair_for q g)).start [] [])
 
 abbrev pub IsGiven : Pair → Function → Type 0
 IsGiven q g = IsFunction q g × (g.stack < 2 ^ 32)
 
--- what is shown is proved: by Leaf, Case, Restrict, Split and Call of earlier functions
+-- what is shown is proved: by Leaf, Case, Restrict, Split and Call of earlier functions, with calls inlined
 abbrev pub ShownIsProved : Type 0
 ShownIsProved = (q : Pair) (earlier : List Function) (g : Function) → AreSides q → IsFile q → All (IsGiven q) earlier → IsGiven q g
     → HasShownPart q earlier g → IsProvedFunction q earlier g

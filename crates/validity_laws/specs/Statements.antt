@@ -19,7 +19,8 @@ use Rattle.sim_rules_spec.specs.Systems.{IsSimulated}
 use Rattle.validity_spec.specs.Claim.{Agrees, IsValid}
 use Rattle.agreement_laws.specs.EntryFrame.{Pair, convention_of, entry_premises}
 use Rattle.agreement_laws.specs.Statements.{IsPair, IsSimulatedAtEntry}
-use Rattle.agreement_laws.specs.Callers.{frame_of}
+use Rattle.agreement_laws.specs.Callers.{Base, frame_in}
+use Rattle.validity_laws.specs.Inlined.{IsInlined}
 use Rattle.validity_laws.specs.Derivation.{Function, pair_for, Origin, opening, IsProved, AreSides, AreProved}
 
 -- the functions that may be called are simulated
@@ -28,9 +29,9 @@ AreSimulated q earlier = (g : Function) → Contains earlier g → IsPair (pair_
 
 -- then a frame that is proved, whose premises begin with what holds at the entry, is simulated
 abbrev pub ProofsSimulate : Type 0
-ProofsSimulate = (q : Pair) (earlier : List Function) (origin : Origin) (start : Start) (goals : List Goal) (holds : List Hold) (more : List Term) (zone : Zone)
-    → IsPair q → AreSides q → q.stack < 2 ^ 32 → AreSimulated q earlier → start.premises ≡ entry_premises q ++ more → IsProved q earlier origin start goals holds
-    → IsSimulated (convention_of q zone) (opening q zone origin).known (frame_of q start goals holds)
+ProofsSimulate = (q : Pair) (b : Base) (earlier : List Function) (origin : Origin) (start : Start) (goals : List Goal) (holds : List Hold) (more : List Term) (zone : Zone)
+    → IsPair q → AreSides q → q.stack < 2 ^ 32 → AreSimulated q earlier → IsInlined q b → start.premises ≡ entry_premises q ++ more → IsProved q b earlier origin start goals holds
+    → IsSimulated (convention_of q zone) (opening q zone origin).known (frame_in q b start goals holds)
 
 -- functions that are proved in order agree with their sources
 abbrev pub FunctionsAgree : Type 0

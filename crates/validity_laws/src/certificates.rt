@@ -1,6 +1,6 @@
 //! The laws of checked certificates: each function's clause is one law, and its body is empty.
 
-ghost use Rattle.validity_laws.specs.Accepted.{AcceptedIsValid};
+ghost use Rattle.validity_laws.specs.Accepted.{AcceptedIsValid, WholeIsValid};
 ghost use Rattle.validity_laws.specs.CheckStatements.{ClosedIsValid, ProofsGiveValidity};
 ghost use Rattle.validity_laws.specs.Shown.{ShownIsProved, ShownPartsAreValid};
 
@@ -31,4 +31,10 @@ pub fn functions_shown_in_order_are_valid()
 /// earlier part.
 pub fn what_is_accepted_is_valid()
     ensures { AcceptedIsValid }
+{}
+
+/// Functions of which a certificate is accepted are valid, whatever its lines are: they may inline
+/// calls of functions whose graphs and own variables are known.
+pub fn what_inlines_is_valid()
+    ensures { WholeIsValid }
 {}

@@ -1,6 +1,6 @@
 -- One more number.
-use Rattle.std.proofs.Common.{◌≡◌, ℕ, zero, suc, ◌+◌, ◌<◌, ◌≤◌, Bool, true, false, cond, List, [], ◌∷◌, ◌++◌, length, map, get_or, Option, Some, None, refl, sym, ap, ◌∙◌, subst, arith, length-append}
-use Rattle.std.specs.Prelude.{◌&&◌, ◌||◌, not, All}
+use Rattle.std.proofs.Common.{◌≡◌, ℕ, suc, ◌+◌, ◌<◌, Bool, true, false, cond, List, [], ◌∷◌, ◌++◌, length, map, Option, Some, None, refl, sym, ap, ◌∙◌, subst, arith, length-append}
+use Rattle.std.specs.Prelude.{◌&&◌, not, All}
 use Rattle.std.proofs.lemmas.List.{map-append, length-map}
 use Rattle.std.proofs.lemmas.List.Elements.{All-push, All-same}
 use Rattle.std.proofs.lemmas.Option.{get_or_from_slice_get, slice_get_within}
@@ -23,11 +23,11 @@ use Rattle.word_steps_spec.specs.Numbers.{State, Operation, renew, term_over, at
 use Rattle.word_steps_spec.specs.Lines as lines
 use Rattle.word_steps.specs.declared.number.Number.{Number}
 use Rattle.word_steps.specs.declared.block.Block.{Block}
-use Rattle.word_steps.specs.Views.{node_over, named, operation_of, before, no_number, number_in, term_in, count_of, new_number, are_below, numbers_of, number_of, sort_of_number, is_value_sort, marks_at}
+use Rattle.word_steps.specs.Views.{node_over, named, operation_of, before, no_number, term_in, count_of, new_number, are_below, numbers_of, number_of, sort_of_number, is_value_sort, marks_at}
 use Rattle.word_steps.specs.Shows.{IsNumber, IsBlock, IsMarked, Shows}
 use Rattle.word_steps.specs.Outcomes.{Becomes, BecomesSome, IsRefused, IsPushed}
 use Rattle.word_steps.proofs.Operators.{build_over, over_within, node_wider, indices_within, indices_named, named_there}
-use Rattle.word_steps.proofs.Later.{longer, stays, all_of, numbers_later, sorts_later, number_wider, block_later, shows_later, becomes_then, number_at_is}
+use Rattle.word_steps.proofs.Later.{longer, all_of, numbers_later, sorts_later, number_wider, number_at_is}
 use Rattle.word_steps.proofs.Noted.{number_among_more, marks-push, sort_of_over}
 
 module _ (trees : List Term) (b : Block) (is : IsBlock trees b) (node : TermNode) (fits : IsNode (count_of b) node) where

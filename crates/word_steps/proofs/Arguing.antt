@@ -1,16 +1,13 @@
 -- What a fact says of its arguments.
-use Rattle.std.proofs.Common.{◌≡◌, ℕ, zero, suc, ◌+◌, ◌-◌, ◌<◌, ◌≤◌, Bool, true, false, cond, List, [], ◌∷◌, length, map, get_or, Option, Some, None, refl, sym, ap, ◌∙◌, subst, arith, append-nil}
+use Rattle.std.proofs.Common.{◌≡◌, ℕ, zero, suc, ◌-◌, ◌<◌, ◌≤◌, Bool, true, false, cond, List, [], ◌∷◌, length, get_or, Option, Some, None, refl, sym, ap, ◌∙◌, subst, arith, append-nil}
 use Rattle.std.proofs.lemmas.Bool.{eqb-false, ltb-true, ltb-false}
 use Rattle.std.specs.Prelude.{◌==◌, ◌||◌, nat_lt, option_map, option_and_then, unwrap_or}
-use Rattle.term_core_spec.specs.declared.Sort.{Sort}
 use Rattle.term_core_spec.specs.declared.Sort.TheVariants as sort
 use Rattle.term_core_spec.specs.Term.{Term, truth}
 use Rattle.term_core_spec.specs.Sort.{sort_of}
-use Rattle.term_core_spec.specs.Same.{same_term}
 use Rattle.memory_spec.specs.Runs.{Run}
 use Rattle.term_norm_spec.specs.Normal.{normal}
-use Rattle.term_bank.specs.declared.node.TermNode.{TermNode}
-use Rattle.term_bank.specs.Nodes.{IsNode, tree_at, Holds, Extends}
+use Rattle.term_bank.specs.Nodes.{tree_at, Extends}
 use Rattle.term_bank.specs.Subterms.{arguments_of}
 use Rattle.word_steps_spec.specs.Numbers as spec
 use Rattle.word_steps_spec.specs.Numbers.{State, is_bool, has_sort, operand_at, operands, at_places, made, is_fact}
@@ -18,11 +15,11 @@ use Rattle.word_steps_spec.specs.Lines as lines
 use Rattle.word_steps.specs.declared.number.Fact.{Fact}
 use Rattle.word_steps.specs.declared.number.Number.{Number}
 use Rattle.word_steps.specs.declared.block.Block.{Block}
-use Rattle.word_steps.specs.Views.{operation_of, number_in, no_number, count_of, marks_at, unmarked, has_fact, numbers_of, number_of, sort_in, sort_of_number, index_below, place_of, form_with, fact_of, fact_at, with_said, with_all_places}
-use Rattle.word_steps.specs.Shows.{IsNumber, IsBlock, IsMarked, Shows}
-use Rattle.word_steps.specs.Outcomes.{Becomes, Then, BecomesSome, IsRefused, Tries, IsFactIndex}
+use Rattle.word_steps.specs.Views.{number_in, no_number, count_of, marks_at, unmarked, has_fact, numbers_of, sort_in, sort_of_number, index_below, place_of, form_with, fact_at, with_said, with_all_places}
+use Rattle.word_steps.specs.Shows.{IsBlock, Shows}
+use Rattle.word_steps.specs.Outcomes.{Becomes, Tries, IsFactIndex}
 use Rattle.word_steps.proofs.Operators.{operand_is, operand_count, argument_within}
-use Rattle.word_steps.proofs.Later.{stays, numbers_later, block_later, shows_later, becomes_same, becomes_then, number_at_is}
+use Rattle.word_steps.proofs.Later.{numbers_later, block_later, shows_later, becomes_same, becomes_then, number_at_is}
 use Rattle.word_steps.proofs.Renewals.{form_is, operation_at_is, is_number}
 use Rattle.std.proofs.lemmas.List.{get_or-map}
 use Rattle.std.proofs.lemmas.Option.{same_Some}

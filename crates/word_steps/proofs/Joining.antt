@@ -1,28 +1,23 @@
 -- The goals that are left.
-use Rattle.std.proofs.Common.{◌≡◌, ℕ, zero, suc, ◌+◌, ◌-◌, ◌<◌, ◌≤◌, Bool, true, false, cond, List, [], ◌∷◌, ◌++◌, length, map, take, get_or, Option, Some, None, refl, sym, ap, ◌∙◌, subst, arith, append-nil}
-use Rattle.std.specs.Prelude.{◌&&◌, All, option_map, unwrap_or, is_some, slice_get}
+use Rattle.std.proofs.Common.{◌≡◌, ℕ, zero, suc, ◌+◌, ◌<◌, ◌≤◌, Bool, true, false, cond, List, [], ◌∷◌, ◌++◌, length, map, take, Option, Some, None, refl, sym, ap, ◌∙◌, arith, append-nil}
+use Rattle.std.specs.Prelude.{◌&&◌, option_map, is_some, slice_get}
 use Rattle.std.proofs.lemmas.Bool.{and_left}
 use Rattle.std.proofs.lemmas.List.Elements.{All-nil, All-cons}
 use Rattle.std.proofs.lemmas.Option.{get_or_from_slice_get, slice_get_within, same_Some}
 use Rattle.term_core_spec.specs.declared.Atom.TheVariants as atom
-use Rattle.term_core_spec.specs.declared.Sort.{Sort}
 use Rattle.term_core_spec.specs.declared.Sort.TheVariants as sort
 use Rattle.term_core_spec.specs.Term as tree
 use Rattle.term_core_spec.specs.Term.{Term, truth, not_term, and_term}
-use Rattle.term_core_spec.specs.Sort.{sort_of}
 use Rattle.memory_spec.specs.Runs.{Run}
-use Rattle.term_norm_spec.specs.Normal.{normal}
 use Rattle.term_bank.specs.Nodes.{tree_at, Holds, Extends}
 use Rattle.word_steps_spec.specs.Numbers as spec
 use Rattle.word_steps_spec.specs.Numbers.{State, is_fact, are_facts, signed, reading, rebuilt, is_number, is_bool, term_at}
-use Rattle.word_steps_spec.specs.Lines as lines
-use Rattle.word_steps_spec.specs.Lines.{and_all, conjunction, not_all, kept_goal, left, Keep, Case}
+use Rattle.word_steps_spec.specs.Lines.{and_all, not_all, kept_goal, left, Keep, Case}
 use Rattle.word_steps.specs.declared.number.Reading.{Reading}
-use Rattle.word_steps.specs.declared.number.Number.{Number}
 use Rattle.word_steps.specs.declared.block.Block.{Block}
-use Rattle.word_steps.specs.Views.{index_below, sort_in, count_of, numbers_of, number_of, reading_of, fact_of, and_with, joined, not_joined, IsIdBelow, AreNumbered}
+use Rattle.word_steps.specs.Views.{index_below, sort_in, count_of, numbers_of, reading_of, fact_of, and_with, joined, not_joined, IsIdBelow}
 use Rattle.word_steps.specs.Shows.{IsBlock, Shows}
-use Rattle.word_steps.specs.Outcomes.{IsFactIndex, AreFacts, IsConjunction, Leaves, LeavesTwo, IsCase, is_case, AreCaseGoals}
+use Rattle.word_steps.specs.Outcomes.{IsFactIndex, AreFacts, IsConjunction, IsCase, is_case, AreCaseGoals}
 use Rattle.word_steps.proofs.Later.{stays, longer, numbers_later}
 use Rattle.word_steps.proofs.Arguing.{index_is_below, bool_is}
 use Rattle.word_steps.proofs.Taken.{number_there}

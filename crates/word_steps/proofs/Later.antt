@@ -1,5 +1,5 @@
 -- A block while the bank grows, and one step after the other.
-use Rattle.std.proofs.Common.{◌≡◌, ℕ, zero, suc, ◌<◌, ◌≤◌, List, [], ◌∷◌, ◌++◌, length, map, get_or, Option, Some, None, refl, sym, ap, ◌∙◌, subst, arith, length-append}
+use Rattle.std.proofs.Common.{◌≡◌, ℕ, suc, ◌<◌, ◌≤◌, List, [], ◌∷◌, length, map, get_or, refl, sym, ap, ◌∙◌, subst, arith, length-append}
 use Rattle.std.specs.Prelude.{All}
 use Rattle.std.proofs.lemmas.List.Elements.{All-head, All-tail}
 use Rattle.std.proofs.lemmas.List.{get_or-map}
@@ -9,12 +9,10 @@ use Rattle.term_bank.specs.Nodes.{tree_at, Extends}
 use Rattle.term_bank.proofs.Growth.{tree_at-front}
 use Rattle.word_steps_spec.specs.Numbers as spec
 use Rattle.word_steps_spec.specs.Numbers.{State}
-use Rattle.word_steps.specs.declared.number.Other.{Other}
-use Rattle.word_steps.specs.declared.number.Other.TheVariants.{Index, Constant}
 use Rattle.word_steps.specs.declared.number.Number.{Number}
 use Rattle.word_steps.specs.declared.block.Block.{Block}
 use Rattle.word_steps.specs.Views.{no_number, number_in, count_of, number_of, numbers_of, sort_of_number, operation_of}
-use Rattle.word_steps.specs.Shows.{IsOther, IsNumber, IsBlock, IsMarked, Shows}
+use Rattle.word_steps.specs.Shows.{IsNumber, IsBlock, Shows}
 use Rattle.word_steps.specs.Outcomes.{Becomes}
 
 pub longer : (old new : List Term) → Extends old new → length old ≤ length new

@@ -8,3 +8,4 @@ pub mod Adding
 pub mod Joining
 pub mod Merged
 pub mod Taken
+pub mod Reordered

@@ -1,11 +1,10 @@
 -- Merges.
-use Rattle.std.proofs.Common.{◌≡◌, ℕ, zero, suc, ◌-◌, ◌<◌, Bool, true, false, cond, List, [], ◌∷◌, length, map, get_or, Option, Some, None, refl, sym, ap, ◌∙◌, subst, arith}
+use Rattle.std.proofs.Common.{◌≡◌, ℕ, suc, ◌-◌, ◌<◌, Bool, true, false, cond, List, [], ◌∷◌, length, Option, Some, None, refl, sym, ap, ◌∙◌, arith}
 use Rattle.std.specs.Prelude.{Result, Ok, Err, ◌==◌, ◌&&◌, ◌||◌, nat_eq, nat_lt, is_some}
 use Rattle.std.proofs.lemmas.Bool.{lt-ltb}
 use Rattle.std.proofs.lemmas.List.{get_or-map, length-map}
 use Rattle.std.proofs.lemmas.Option.{get_or_from_slice_get}
 use Rattle.term_core_spec.specs.declared.Atom.TheVariants as atom
-use Rattle.term_core_spec.specs.declared.Sort.{Sort}
 use Rattle.term_core_spec.specs.declared.Sort.TheVariants as sort
 use Rattle.term_core_spec.specs.declared.BinaryOperator.TheVariants as binary
 use Rattle.term_core_spec.specs.Term as tree
@@ -22,7 +21,6 @@ use Rattle.word_steps_spec.specs.Numbers as spec
 use Rattle.word_steps_spec.specs.Numbers.{State, renew, reading, is_number, is_fact, are_facts, are_alike, term_at}
 use Rattle.word_steps_spec.specs.Lines as lines
 use Rattle.word_steps.specs.declared.number.Reading.{Reading}
-use Rattle.word_steps.specs.declared.number.Number.{Number}
 use Rattle.attempt.specs.declared.refusal.Refusal.{Refusal}
 use Rattle.attempt.specs.declared.refusal.Refusal.TheVariants.{Fault, NoMemory}
 use Rattle.word_steps.specs.declared.block.WordFault.{WordFault}
@@ -33,7 +31,7 @@ use Rattle.word_steps.specs.Views.{is_truth_node, are_both, is_equality_node, me
 use Rattle.word_steps.specs.Shows.{IsBlock, Shows}
 use Rattle.word_steps.specs.Outcomes.{Becomes, BecomesSome, IsRefused, IsFactIndex, ArePaired, are_pair, TriesOne, Takes}
 use Rattle.word_steps.proofs.Operators.{is_number_below, node_wider}
-use Rattle.word_steps.proofs.Later.{stays, numbers_later, block_later, shows_later, number_at_is}
+use Rattle.word_steps.proofs.Later.{stays, shows_later, number_at_is}
 
 -- ---- an `eq` of two terms, and truth values
 

@@ -1,15 +1,14 @@
 -- Facts, merges and numbers that are noted, before anything is renewed.
-use Rattle.std.proofs.Common.{◌≡◌, ◌≢◌, ℕ, zero, suc, ◌+◌, ◌<◌, ◌≤◌, Bool, true, false, cond, List, [], ◌∷◌, ◌++◌, ◌⊎◌, inl, inr, length, map, get_or, set, Option, Some, None, refl, sym, ap, ◌∙◌, subst, ⊎_elim, arith, length-append}
-use Rattle.std.specs.Prelude.{◌==◌, ◌&&◌, ◌||◌, not, All, option_map}
-use Rattle.std.proofs.lemmas.Bool.{cases_eq, eq-eqb, ne_eqb, cases_lt}
-use Rattle.std.proofs.lemmas.List.{length-set, map-set, map-append, set-get_or, get_or-map, get_or_append_left, get_or_at, get_or-append_right}
-use Rattle.std.proofs.lemmas.List.Elements.{All-set, All-same, All-push}
-use Rattle.term_core_spec.specs.declared.Sort.{Sort}
+use Rattle.std.proofs.Common.{◌≡◌, ◌≢◌, ℕ, zero, suc, ◌<◌, ◌≤◌, Bool, true, false, cond, List, [], ◌∷◌, ◌++◌, ◌⊎◌, inl, inr, length, map, set, Option, Some, None, refl, sym, ap, ◌∙◌, subst, arith}
+use Rattle.std.specs.Prelude.{◌==◌, ◌&&◌, ◌||◌, All}
+use Rattle.std.proofs.lemmas.Bool.{cases_eq, eq-eqb, ne_eqb}
+use Rattle.std.proofs.lemmas.List.{length-set, map-set, set-get_or, get_or-map}
+use Rattle.std.proofs.lemmas.List.Elements.{All-set, All-same}
 use Rattle.term_core_spec.specs.Term.{Term}
 use Rattle.term_core_spec.specs.Sort.{sort_of}
 use Rattle.term_bank.specs.declared.node.TermNode.{TermNode}
 use Rattle.term_bank.specs.declared.node.TermNode.TheVariants.{Leaf, Unary, Binary, Ternary, Quaternary, Octonary}
-use Rattle.term_bank.specs.Nodes.{IsNode, tree_at, build, Holds, Extends}
+use Rattle.term_bank.specs.Nodes.{IsNode, tree_at, build}
 use Rattle.term_sorts.specs.Sorts.{sort_at, sort_of_node}
 use Rattle.word_steps_spec.specs.Numbers as spec
 use Rattle.word_steps_spec.specs.Numbers.{State, known_truth, is_fact, merged_with, same_sign}
@@ -18,7 +17,7 @@ use Rattle.word_steps.specs.declared.number.Other.TheVariants.{Index, Constant}
 use Rattle.word_steps.specs.declared.number.Marks.{Marks}
 use Rattle.word_steps.specs.declared.number.Number.{Number}
 use Rattle.word_steps.specs.declared.block.Block.{Block}
-use Rattle.word_steps.specs.Views.{node_over, operation_of, no_number, number_in, term_in, count_of, marks_at, unmarked, has_fact, number_of, numbers_of, sort_of_number, other_of, fact_at, with_truth, with_other, noted_fact, noted_merge}
+use Rattle.word_steps.specs.Views.{node_over, no_number, number_in, term_in, count_of, marks_at, unmarked, has_fact, number_of, numbers_of, sort_of_number, other_of, fact_at, with_truth, with_other, noted_fact, noted_merge}
 use Rattle.word_steps.specs.Shows.{IsOther, IsNumber, IsBlock, IsMarked, Shows}
 use Rattle.word_steps.specs.Outcomes.{Becomes}
 use Rattle.word_steps.proofs.Operators.{node_wider}

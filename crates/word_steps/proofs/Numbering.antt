@@ -1,6 +1,6 @@
 -- The numbers of the subterms of a goal.
-use Rattle.std.proofs.Common.{◌≡◌, ℕ, zero, suc, ◌+◌, ◌<◌, ◌≤◌, Bool, true, false, cond, List, [], ◌∷◌, ◌++◌, length, map, take, get_or, Option, Some, None, refl, sym, ap, ◌∙◌, subst, eqb-true, arith, append_assoc, append-nil, length-append}
-use Rattle.std.specs.Prelude.{◌||◌, nat_eq, nat_lt, position, unwrap_or, All, slice_get}
+use Rattle.std.proofs.Common.{◌≡◌, ℕ, zero, suc, ◌+◌, ◌<◌, Bool, true, false, cond, List, [], ◌∷◌, ◌++◌, length, map, take, Option, Some, None, refl, sym, ap, ◌∙◌, subst, eqb-true, arith, append_assoc, append-nil, length-append}
+use Rattle.std.specs.Prelude.{◌||◌, nat_eq, nat_lt, unwrap_or, All, slice_get}
 use Rattle.std.specs.List.{list_any, position_or_len}
 use Rattle.std.proofs.lemmas.Bool.{lt-ltb}
 use Rattle.std.proofs.lemmas.List.Recursion.{is_position_or_len}
@@ -29,7 +29,7 @@ use Rattle.term_core_spec.proofs.Subterms.{there}
 use Rattle.word_steps.specs.declared.number.Number.{Number}
 use Rattle.word_steps.specs.declared.block.Block.{Block}
 use Rattle.word_steps.specs.Views.{node_over, named, operation_of, index_among, number_of, numbers_of, sort_of_number, new_number, count_of, marks_at, unmarked, has_fact, noted_fact, fact_at}
-use Rattle.word_steps.specs.Shows.{IsNumber, IsBlock, IsMarked, Shows}
+use Rattle.word_steps.specs.Shows.{IsNumber, IsMarked, Shows}
 use Rattle.word_steps.specs.Outcomes.{Becomes, IsPushed, AreSubterms}
 use Rattle.word_steps.proofs.Operators.{node_wider}
 use Rattle.word_steps.proofs.Later.{all_of}

@@ -1,33 +1,29 @@
 -- Renewing a number.
-use Rattle.std.proofs.Common.{◌≡◌, ◌≢◌, ℕ, zero, suc, ◌+◌, ◌<◌, ◌≤◌, Bool, true, false, cond, List, [], ◌∷◌, ◌++◌, ◌⊎◌, inl, inr, length, map, get_or, set, Option, Some, None, refl, sym, ap, ◌∙◌, subst, ⊎_elim, arith}
-use Rattle.std.specs.Prelude.{◌==◌, nat_eq, All, option_map}
+use Rattle.std.proofs.Common.{◌≡◌, ◌≢◌, ℕ, zero, suc, ◌+◌, ◌<◌, Bool, true, false, cond, List, length, map, get_or, set, Option, Some, None, refl, sym, ap, ◌∙◌, subst, ⊎_elim, arith}
+use Rattle.std.specs.Prelude.{◌==◌, All, option_map}
 use Rattle.std.proofs.lemmas.Bool.{cases_eq}
 use Rattle.std.proofs.lemmas.List.{length-set, get_or-set_same, get_or-set_other, map-set, set-get_or, get_or-map}
 use Rattle.std.proofs.lemmas.List.Elements.{All-set, All-same}
 use Rattle.std.proofs.lemmas.Option.{slice_get_within, get_or_from_slice_get}
-use Rattle.term_core_spec.specs.declared.Atom.{Atom}
 use Rattle.term_core_spec.specs.declared.Atom.TheVariants as atom
-use Rattle.term_core_spec.specs.declared.Sort.{Sort}
 use Rattle.term_core_spec.specs.Term as tree
 use Rattle.term_core_spec.specs.Term.{Term, truth}
-use Rattle.term_core_spec.specs.Same.{same_term}
 use Rattle.memory_spec.specs.Runs.{Run}
 use Rattle.term_norm_spec.specs.Normal.{normal}
-use Rattle.term_bank.specs.Nodes.{IsNode, tree_at, build, Holds, Extends, AreDistinct}
+use Rattle.term_bank.specs.Nodes.{IsNode, tree_at, Holds, Extends, AreDistinct}
 use Rattle.term_bank.proofs.Growth.{held}
 use Rattle.term_sorts.proofs.Orders.{same_ids}
 use Rattle.word_steps_spec.specs.Numbers as spec
 use Rattle.word_steps_spec.specs.Numbers.{State, renew, renewed, rebuilt, with_now, at_places, made}
 use Rattle.word_steps.specs.declared.number.Other.{Other}
-use Rattle.word_steps.specs.declared.number.Other.TheVariants.{Index, Constant}
-use Rattle.word_steps.specs.declared.number.Marks.{Marks}
+use Rattle.word_steps.specs.declared.number.Other.TheVariants.{Index}
 use Rattle.word_steps.specs.declared.number.Number.{Number}
 use Rattle.word_steps.specs.declared.block.Block.{Block}
-use Rattle.word_steps.specs.Views.{node_over, operation_of, no_number, number_in, now_in, count_of, marks_at, unmarked, number_of, numbers_of, sort_of_number, other_of, other_in, form_with, merged_in, renewed_in}
+use Rattle.word_steps.specs.Views.{node_over, operation_of, no_number, number_in, now_in, count_of, marks_at, number_of, numbers_of, sort_of_number, other_of, other_in, form_with, merged_in, renewed_in}
 use Rattle.word_steps.specs.Shows.{IsOther, IsNumber, IsBlock, IsMarked, Shows}
 use Rattle.word_steps.specs.Outcomes.{Becomes}
 use Rattle.word_steps.proofs.Operators.{build_over, over_within, nothing_at_0}
-use Rattle.word_steps.proofs.Later.{longer, stays, all_of, numbers_later, sorts_later, number_wider, block_later, number_at_is}
+use Rattle.word_steps.proofs.Later.{longer, stays, all_of, numbers_later, sorts_later, number_wider, number_at_is}
 
 -- ---- what is merged
 

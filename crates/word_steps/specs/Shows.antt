@@ -1,6 +1,5 @@
 -- When a block's numbers are in order, and which state it shows.
 use Rattle.std.specs.Prelude.{◌≡◌, ℕ, ◌<◌, Bool, List, length, map, All, Option, Some, None, option_map}
-use Rattle.term_core_spec.specs.declared.Sort.{Sort}
 use Rattle.term_core_spec.specs.Term.{Term}
 use Rattle.term_bank.specs.Nodes.{IsNode}
 use Rattle.word_steps_spec.specs.Numbers as spec

@@ -1,5 +1,5 @@
 -- The state of a block, of the code as the definitions have it, over the trees of a bank.
-use Rattle.std.specs.Prelude.{◌≡◌, ℕ, zero, suc, ◌-◌, ◌<◌, ◌≤◌, ◌==◌, ◌&&◌, ◌||◌, not, nat_lt, nat_eq, Bool, true, false, if◌then◌else◌, List, [], ◌∷◌, get_or, slice_get, position, length, map, All, Option, Some, None, option_map, option_and_then, is_some, unwrap_or}
+use Rattle.std.specs.Prelude.{ℕ, zero, suc, ◌-◌, ◌<◌, ◌≤◌, ◌==◌, ◌&&◌, ◌||◌, not, nat_lt, nat_eq, Bool, true, false, if◌then◌else◌, List, [], ◌∷◌, get_or, slice_get, position, length, map, All, Option, Some, None, option_map, option_and_then, is_some, unwrap_or}
 use Rattle.term_core_spec.specs.declared.Atom.TheVariants as atom
 use Rattle.term_core_spec.specs.declared.Sort.{Sort}
 use Rattle.term_core_spec.specs.Term.{Term, truth, not_term, and_term}
@@ -259,3 +259,7 @@ merged_by_fact runs first second fact s =
 -- the same, where the fact is there
 abbrev pub merged_if_fact : List Run → (first second : ℕ) → Reading → spec.State → Option spec.State
 merged_if_fact runs first second fact s = if spec.is_fact s.facts (fact_of fact.fact) then merged_by_fact runs first second fact s else None
+
+-- the first number is renewed, and merged with the second where both are now the same up to the order of arguments
+abbrev pub merged_by_order : List Run → (first second : ℕ) → spec.State → Option spec.State
+merged_by_order runs first second s = lines.merged runs lines.Comm (suc first) (suc second) [] (spec.renew runs (suc first) s)

@@ -13,6 +13,7 @@ mod merging;
 mod nodes;
 mod number;
 mod renewing;
+mod reordering;
 mod starting;
 
 pub use block::{Block, WordFault};

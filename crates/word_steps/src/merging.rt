@@ -137,7 +137,7 @@ impl Block {
     }
 
     // The indices of two numbers that are alike, where they are.
-    fn alike_pair(&self, first: usize, second: usize) -> Option<Pair>
+    pub(crate) fn alike_pair(&self, first: usize, second: usize) -> Option<Pair>
         requires { length self.now.sorts.items ≡ views.count_of self.now }
         ensures { ArePaired self.now first second result }
     {

@@ -1,5 +1,5 @@
 use Rattle.std.proofs.Common.{refl}
-use Rattle.cert_check_frames.specs.declared.jobs.Job.TheVariants.{Close}
+use Rattle.cert_check_jobs.specs.declared.jobs.Job.TheVariants.{Close}
 use Rattle.path_cond.proofs.Banks.{extends_itself}
 use Rattle.cert_check.proofs.Leaving.{first_inside, below_kept, on_ok}
 use Rattle.cert_check.proofs.logs.begin_first.Goals as goal

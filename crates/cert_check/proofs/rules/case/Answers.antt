@@ -1,35 +1,40 @@
-use Rattle.std.proofs.Common.{List, length, subst}
-use Rattle.cert_check_frames.specs.declared.jobs.Branch.{Branch}
-use Rattle.cert_check_frames.specs.Jobs.{AreInside, HasBranches}
-use Rattle.cert_check.proofs.Pushed.{inside_top, same_premises}
+use Rattle.std.proofs.Common.{length, subst}
+use Rattle.cert_check_jobs.specs.declared.extra.Extra.{Extra}
+use Rattle.cert_check_jobs.specs.Jobs.{AreInside, HasBranches}
+use Rattle.cert_check.proofs.Pushed.{inside_top, same_added}
 use Rattle.cert_check.proofs.Tops.{case_top, case_follows}
 use Rattle.cert_check.proofs.InPart.{case_passes, test_fails}
 use Rattle.cert_check.proofs.Leaving.{case_kept}
 use Rattle.cert_check.proofs.rules.case.Goals as goal
 
-pub take_proof-premises-requires : goal.take_proof-premises-requires
-take_proof-premises-requires c = case_top c.args.symbols.now c.args.jobs.now.items c.requires.next
+pub take_proof-extra-requires : goal.take_proof-extra-requires
+take_proof-extra-requires c = case_top c.args.symbols.now c.args.jobs.now.items c.requires.next
 
 -- no test
 pub returns-clause-step : goal.returns-clause-step
 returns-clause-step c = λ fs parts m at is.
     let top = case_top c.args.symbols.now c.args.jobs.now.items c.requires.next in
     test_fails fs parts m at c.args.function.now is c.args.bank.now c.test.new.bank c.args.jobs.now.items top.0 c.args.jobs.now.items top.1 c.args.symbols.now _ top.2
-    (c.in-Err-attempt.ensures.test m.listed is)
+    (c.in-Err-attempt.ensures.test m.listed is.listed)
 
 pub returns-3-clause-step : goal.returns-3-clause-step
 returns-3-clause-step c = λ fs parts m at is.
-    let inside = inside_top (length c.args.bank.now) c.take_proof-premises.new.jobs.items _ (subst (AreInside (length c.args.bank.now)) c.take_proof-premises.ensures c.requires.kept.inside) in
-    case_passes fs parts m at c.args.function.now is c.args.bank.now c.test.new.bank c.args.jobs.now.items c.take_proof-premises.new.jobs.items c.push_branches.new.jobs.items c.take_proof-premises.result
-    c.args.symbols.now c.in-Ok-attempt.field-0 c.test.ensures.extends c.take_proof-premises.ensures inside.0
-    (same_premises c.args.bank.now c.test.new.bank c.test.ensures.extends c.take_proof-premises.result.items inside.1) (subst (λ (premises : List Branch). HasBranches c.take_proof-premises.new.jobs.items c.push_branches.new.jobs.items premises c.in-Ok-attempt.field-0) c.as_slice.ensures.value c.in-Ok-attempt-2.ensures) (c.in-Ok-attempt.ensures.test m.listed is)
+    let inside = inside_top (length c.args.bank.now) c.take_proof-extra.new.jobs.items _ (subst (AreInside (length c.args.bank.now)) c.take_proof-extra.ensures c.requires.kept.inside) in
+    case_passes fs parts m at c.args.function.now is c.args.bank.now c.test.new.bank c.args.jobs.now.items c.take_proof-extra.new.jobs.items c.push_branches.new.jobs.items c.take_proof-extra.result
+    c.args.symbols.now c.in-Ok-attempt.field-0 c.test.ensures.extends c.take_proof-extra.ensures inside.0
+    (same_added c.args.bank.now c.test.new.bank c.test.ensures.extends c.take_proof-extra.result.value inside.1)
+    (subst (λ (x : Extra). HasBranches c.take_proof-extra.new.jobs.items c.push_branches.new.jobs.items x c.in-Ok-attempt.field-0) c.deref.ensures c.in-Ok-attempt-2.ensures)
+    (c.in-Ok-attempt.ensures.test m.listed is.listed)
 
 pub returns-3-clause-kept : goal.returns-3-clause-kept
 returns-3-clause-kept c =
-    case_kept c.args.function.now c.args.bank.now c.test.new.bank _ _ c.args.jobs.now.items c.take_proof-premises.new.jobs.items c.push_branches.new.jobs.items c.take_proof-premises.result c.in-Ok-attempt.field-0
-    c.requires.kept c.test.ensures.extends c.take_proof-premises.ensures (subst (λ (premises : List Branch). HasBranches c.take_proof-premises.new.jobs.items c.push_branches.new.jobs.items premises c.in-Ok-attempt.field-0) c.as_slice.ensures.value c.in-Ok-attempt-2.ensures) c.in-Ok-attempt.ensures.within
+    case_kept c.args.function.now c.args.bank.now c.test.new.bank _ _ c.args.jobs.now.items c.take_proof-extra.new.jobs.items c.push_branches.new.jobs.items c.take_proof-extra.result c.in-Ok-attempt.field-0
+    c.requires.kept c.test.ensures.extends c.take_proof-extra.ensures
+    (subst (λ (x : Extra). HasBranches c.take_proof-extra.new.jobs.items c.push_branches.new.jobs.items x c.in-Ok-attempt.field-0) c.deref.ensures c.in-Ok-attempt-2.ensures)
+    c.in-Ok-attempt.ensures.within
 
 pub returns-3-clause-follows : goal.returns-3-clause-follows
 returns-3-clause-follows c =
-    case_follows c.args.symbols.now c.args.jobs.now.items c.take_proof-premises.new.jobs.items c.push_branches.new.jobs.items c.take_proof-premises.result c.take_proof-premises.result.items c.in-Ok-attempt.field-0
-    c.take_proof-premises.ensures (subst (λ (premises : List Branch). HasBranches c.take_proof-premises.new.jobs.items c.push_branches.new.jobs.items premises c.in-Ok-attempt.field-0) c.as_slice.ensures.value c.in-Ok-attempt-2.ensures)
+    case_follows c.args.symbols.now c.args.jobs.now.items c.take_proof-extra.new.jobs.items c.push_branches.new.jobs.items c.take_proof-extra.result c.take_proof-extra.result.value c.in-Ok-attempt.field-0
+    c.take_proof-extra.ensures
+    (subst (λ (x : Extra). HasBranches c.take_proof-extra.new.jobs.items c.push_branches.new.jobs.items x c.in-Ok-attempt.field-0) c.deref.ensures c.in-Ok-attempt-2.ensures)

@@ -2,7 +2,10 @@ use Rattle.std.proofs.Common.{sym, ◌∙◌, subst, List, Vec, Global}
 use Rattle.std.specs.Prelude.{OnOk}
 use Rattle.cert_text_parse.specs.Views.{line_of}
 use Rattle.cert_text_spec.specs.declared.Symbol.{Symbol}
-use Rattle.cert_text_spec.specs.Lines.{Case}
+use Rattle.cert_text_parse.specs.declared.lines.BinaryRestriction.{BinaryRestriction}
+use Rattle.cert_text_parse.specs.declared.lines.SourceRestriction.{SourceRestriction}
+use Rattle.proof_tree.specs.Proofs.{binary_point_of, source_point_of}
+use Rattle.cert_text_spec.specs.Lines.{Case, RestrictBinary, RestrictSource}
 use Rattle.cert_check.specs.Expectations.{IsNext, AreAfter}
 use Rattle.cert_check.specs.Steps.{IsStep}
 use Rattle.cert_check.proofs.Entered.{no_other_line}
@@ -38,7 +41,39 @@ returns-in-Case-clause-follows c =
     (subst (λ (t : Vec Symbol Global). OnOk c.case.result (AreAfter c.args.jobs.now.items (Case t.items) c.case.new.jobs.items)) c.deref.ensures
     (subst (λ (t : List Symbol). OnOk c.case.result (AreAfter c.args.jobs.now.items (Case t) c.case.new.jobs.items)) c.as_slice.ensures.value c.case.ensures.follows))
 
+pub restrict_binary-requires-clause-next : goal.restrict_binary-requires-clause-next
+restrict_binary-requires-clause-next c =
+    subst (λ (r : BinaryRestriction). IsNext c.args.jobs.now.items (RestrictBinary (binary_point_of r.point) r.count)) (sym c.deref-in-RestrictBinary.ensures)
+    (subst (λ l. IsNext c.args.jobs.now.items (line_of l)) c.in-RestrictBinary.is c.requires.next)
+
+pub returns-in-RestrictBinary-clause-step : goal.returns-in-RestrictBinary-clause-step
+returns-in-RestrictBinary-clause-step c =
+    subst (λ l. IsStep c.args.function.now c.args.bank.now c.restrict_binary.new.bank c.args.jobs.now.items c.restrict_binary.new.jobs.items (line_of l) c.restrict_binary.result) (sym c.in-RestrictBinary.is)
+    (subst (λ (r : BinaryRestriction). IsStep c.args.function.now c.args.bank.now c.restrict_binary.new.bank c.args.jobs.now.items c.restrict_binary.new.jobs.items (RestrictBinary (binary_point_of r.point) r.count) c.restrict_binary.result)
+    c.deref-in-RestrictBinary.ensures c.restrict_binary.ensures.step)
+
+pub returns-in-RestrictBinary-clause-follows : goal.returns-in-RestrictBinary-clause-follows
+returns-in-RestrictBinary-clause-follows c =
+    subst (λ l. OnOk c.restrict_binary.result (AreAfter c.args.jobs.now.items (line_of l) c.restrict_binary.new.jobs.items)) (sym c.in-RestrictBinary.is)
+    (subst (λ (r : BinaryRestriction). OnOk c.restrict_binary.result (AreAfter c.args.jobs.now.items (RestrictBinary (binary_point_of r.point) r.count) c.restrict_binary.new.jobs.items)) c.deref-in-RestrictBinary.ensures c.restrict_binary.ensures.follows)
+
+pub restrict_source-requires-clause-next : goal.restrict_source-requires-clause-next
+restrict_source-requires-clause-next c =
+    subst (λ (r : SourceRestriction). IsNext c.args.jobs.now.items (RestrictSource (source_point_of r.point) r.count)) (sym c.deref-in-RestrictSource.ensures)
+    (subst (λ l. IsNext c.args.jobs.now.items (line_of l)) c.in-RestrictSource.is c.requires.next)
+
+pub returns-in-RestrictSource-clause-step : goal.returns-in-RestrictSource-clause-step
+returns-in-RestrictSource-clause-step c =
+    subst (λ l. IsStep c.args.function.now c.args.bank.now c.restrict_source.new.bank c.args.jobs.now.items c.restrict_source.new.jobs.items (line_of l) c.restrict_source.result) (sym c.in-RestrictSource.is)
+    (subst (λ (r : SourceRestriction). IsStep c.args.function.now c.args.bank.now c.restrict_source.new.bank c.args.jobs.now.items c.restrict_source.new.jobs.items (RestrictSource (source_point_of r.point) r.count) c.restrict_source.result)
+    c.deref-in-RestrictSource.ensures c.restrict_source.ensures.step)
+
+pub returns-in-RestrictSource-clause-follows : goal.returns-in-RestrictSource-clause-follows
+returns-in-RestrictSource-clause-follows c =
+    subst (λ l. OnOk c.restrict_source.result (AreAfter c.args.jobs.now.items (line_of l) c.restrict_source.new.jobs.items)) (sym c.in-RestrictSource.is)
+    (subst (λ (r : SourceRestriction). OnOk c.restrict_source.result (AreAfter c.args.jobs.now.items (RestrictSource (source_point_of r.point) r.count) c.restrict_source.new.jobs.items)) c.deref-in-RestrictSource.ensures c.restrict_source.ensures.follows)
+
 pub unreachable-requires : goal.unreachable-requires
 unreachable-requires c =
     no_other_line c.args.line.now c.args.jobs.now.items c.requires.next c.requires.inside c.requires.known c.in_default.not-Leaf c.in_default.not-Case
-    c.requires.plain
+    c.in_default.not-RestrictBinary c.in_default.not-RestrictSource c.requires.plain

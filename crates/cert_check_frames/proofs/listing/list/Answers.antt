@@ -11,7 +11,7 @@ pub loop-index-init : goal.loop-index-init
 loop-index-init c = record {
   count = ap (λ (l : List CodeListed). length l) c.new-all.ensures.items;
   within = omega arith;
-  each = λ q functions entries conventions graphs k code f there at.
+  each = λ q firsts functions entries conventions graphs sites k code f there at.
       let bad : None ≡ Some code = ap (λ (l : List CodeListed). slice_get l k) (sym c.new-all.ensures.items) ∙ there in
       absurd (cc);
 }
@@ -26,19 +26,19 @@ loop-index-preserved c =
     record {
       count = omega (arith, long, c.loop-index.invariant.count);
       within = omega (arith, c.loop-index-test.true);
-      each = λ q functions entries conventions graphs k code f there at.
-          listed_next q functions old next (c.loop-index.invariant.each q functions entries conventions graphs) n c.loop-index.invariant.count
-          (λ g here. c.function-function.ensures q g
+      each = λ q firsts functions entries conventions graphs sites k code f there at.
+          listed_next q firsts functions old next (c.loop-index.invariant.each q firsts functions entries conventions graphs sites) n c.loop-index.invariant.count
+          (λ g here. c.function-function.ensures q firsts g
           (entries.each n g c.index-entries-index.result here (slice_get_read c.args.entries.now _ n _ refl c.loop-index-test.true c.index-entries-index.is))
           (conventions.each n g c.index-conventions-index.result here (slice_get_read c.args.conventions.now _ n _ c.requires c.loop-index-test.true c.index-conventions-index.is))
-          graphs)
+          graphs sites)
           k code f (ap (λ (l : List CodeListed). slice_get l k) (sym pushed) ∙ there) at;
     }
 
 pub returns : goal.returns
-returns c = λ q functions entries conventions graphs.
-    let long = length-map functions (listed_of q) in
+returns c = λ q firsts functions entries conventions graphs sites.
+    let long = length-map functions (listed_of q firsts) in
     record {
       count = omega (arith, long, entries.count, c.loop-index.invariant.count, c.loop-index.invariant.within, c.loop-index-test.false);
-      each = c.loop-index.invariant.each q functions entries conventions graphs;
+      each = c.loop-index.invariant.each q firsts functions entries conventions graphs sites;
     }

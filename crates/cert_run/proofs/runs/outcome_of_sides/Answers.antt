@@ -10,9 +10,9 @@ use Rattle.cert_run.proofs.runs.outcome_of_sides.Goals as goal
 pub returns-in-Ok-listed : goal.returns-in-Ok-listed
 returns-in-Ok-listed c =
     IfOk-weaker c.verdict.result _ _
-    (λ o is q functions entries graphs.
-    is (map (listed_of q) functions)
-    (subst (λ (codes : List Listed). AreListed codes (map (listed_of q) functions)) (sym c.as_slice-in-Ok-listed.ensures.value)
-    (c.in-Ok-listed.ensures q functions entries
-    (subst (λ (made : List Convention). AreConventions q functions made) (sym c.as_slice.ensures.value) (c.in-Ok.ensures.are q functions entries)) graphs)))
+    (λ o is q firsts functions entries graphs sites.
+    is (map (listed_of q firsts) functions)
+    (subst (λ (codes : List Listed). AreListed codes (map (listed_of q firsts) functions)) (sym c.as_slice-in-Ok-listed.ensures.value)
+    (c.in-Ok-listed.ensures q firsts functions entries
+    (subst (λ (made : List Convention). AreConventions q functions made) (sym c.as_slice.ensures.value) (c.in-Ok.ensures.are q functions entries)) graphs sites)))
     c.verdict.ensures

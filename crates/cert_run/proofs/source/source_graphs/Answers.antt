@@ -1,8 +1,8 @@
-use Rattle.std.proofs.Common.{◌∙◌, ℕ, List, Option, ap}
+use Rattle.std.proofs.Common.{◌∙◌, ℕ, List, Option, ap, subst}
+use Rattle.std.specs.Prelude.{IfOk}
 use Rattle.std.proofs.Math.Path.{fun_ext}
-use Rattle.std.proofs.lemmas.Result.{IfOk-weaker}
 use Rattle.memory_spec.specs.Viewed.{runs_of}
-use Rattle.c_graph_spec.specs.SourceGraph.{graphs_of}
+use Rattle.cert_run.specs.Sources.{AreSources}
 use Rattle.c_types.specs.Typed.{typed_of}
 use Rattle.c_run_value.specs.Settings.{address_in}
 use Rattle.c_run_value.specs.declared.setting.Global.{Global}
@@ -13,4 +13,4 @@ returns-2 c =
     let unit = typed_of c.args.unit.now in
     let runs = runs_of c.args.runs.now in
     let globals = ap (λ (l : List Global). address_in l) c.as_slice.ensures.value ∙ fun_ext c.in-Ok-attempt.ensures in
-    IfOk-weaker c.graphs_at.result _ _ (λ made e. e ∙ ap (λ (g : List ℕ → Option ℕ). graphs_of unit (record { globals = g; runs = runs })) globals) c.graphs_at.ensures
+    subst (λ (g : List ℕ → Option ℕ). IfOk c.graphs_at.result (AreSources unit (record { globals = g; runs = runs }))) globals c.graphs_at.ensures

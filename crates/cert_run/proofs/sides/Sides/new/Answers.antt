@@ -1,4 +1,5 @@
-use Rattle.std.proofs.Common.{◌∙◌, ℕ, List, refl, sym, ap, subst}
+use Rattle.std.proofs.Common.{◌∙◌, ℕ, List, map, refl, sym, ap, subst}
+use Rattle.cert_check_frames.specs.Entries.{firsts_in}
 use Rattle.graph_core_spec.specs.Graph.{Graphs}
 use Rattle.memory_spec.specs.Runs.{Run}
 use Rattle.memory_spec.specs.declared.Run as code
@@ -45,9 +46,16 @@ returns-4 c = λ read.
       graphs = record {
         code_are = ap (λ (l : List graph.Graph). graphs_of l) c.as_slice-code.ensures.value;
         sources_are =
-            c.in-Ok-attempt-source.ensures
+            c.in-Ok-attempt-2.ensures.graphs_are
             ∙ ap (λ (r : List code.Run). spec.graphs_of unit (record { globals = globals_of image; runs = runs_of r })) c.as_slice.ensures.value;
         runs_are = refl;
+      };
+      firsts = c.requires.paired.code.firsts;
+      sites = record {
+        firsts_are = ap (λ l. map firsts_in l) c.as_slice-firsts.ensures.value ∙ sym c.requires.paired.firsts;
+        places_are =
+            c.in-Ok-attempt-2.ensures.places_are
+            ∙ ap (λ (r : List code.Run). map (spec.points_of unit (record { globals = globals_of image; runs = runs_of r })) unit.bodies) c.as_slice.ensures.value;
       };
       entries =
           subst (λ (r : List code.Run). AreEntries (pair_with image unit (numbering_by pairs.entries (runs_of r) c.requires.paired.code.firsts) graphs) (functions_in unit pairs) made)

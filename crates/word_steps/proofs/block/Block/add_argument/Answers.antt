@@ -1,8 +1,7 @@
-use Rattle.std.proofs.Common.{Some, None, ◌≡◌, sym, ap, ◌∙◌}
+use Rattle.std.proofs.Common.{sym, ap, ◌∙◌}
 use Rattle.std.specs.Prelude.{option_map}
 use Rattle.memory_spec.specs.Viewed.{runs_of}
 use Rattle.word_steps.specs.Views.{fact_at}
-use Rattle.term_norm.proofs.Growth.{extends_through}
 use Rattle.word_steps.proofs.Later.{block_later}
 use Rattle.word_steps.proofs.Arguing.{no_value, a_value}
 use Rattle.word_steps.proofs.block.Block.add_argument.Goals as goal

@@ -1,5 +1,4 @@
 use Rattle.std.proofs.Common.{length, sym, ap, ◌∙◌, subst}
-use Rattle.std.specs.Prelude.{OnOk}
 use Rattle.std.proofs.lemmas.Result.{on_ok_weaker}
 use Rattle.std.proofs.lemmas.List.{length-map}
 use Rattle.std.proofs.Common.{[]}
@@ -7,7 +6,7 @@ use Rattle.term_bank.specs.Nodes.{IsNode}
 use Rattle.term_sorts.specs.Sorts.{sort_of_node}
 use Rattle.term_sorts.proofs.Orders.{within_of}
 use Rattle.word_steps.specs.Outcomes.{IsPushed}
-use Rattle.word_steps.specs.Views.{node_over, index_among, new_number, sort_of_number}
+use Rattle.word_steps.specs.Views.{new_number, sort_of_number}
 use Rattle.word_steps.proofs.Numbering.{within_at, over_ids_within, subterm_added}
 use Rattle.word_steps.proofs.block.Block.add_subterm.Goals as goal
 

@@ -1,4 +1,4 @@
-use Rattle.std.proofs.Common.{true, false, subst}
+use Rattle.std.proofs.Common.{subst}
 use Rattle.memory_spec.specs.Viewed.{runs_of}
 use Rattle.word_steps.specs.Outcomes.{AreFacts}
 use Rattle.word_steps.proofs.Joining.{no_case, no_facts_case, two_left, id_below}

@@ -1,4 +1,4 @@
-use Rattle.std.proofs.Common.{true, false, suc, List, map, sym, ap, ◌∙◌, subst, arith, ◌<◌, length}
+use Rattle.std.proofs.Common.{true, false, suc, List, map, ap, ◌∙◌, subst, arith, ◌<◌, length}
 use Rattle.memory_spec.specs.Viewed.{runs_of}
 use Rattle.term_norm.proofs.Growth.{read, within, stays, kept, longer, extends_through}
 use Rattle.term_bank.specs.Nodes.{tree_at, Holds}

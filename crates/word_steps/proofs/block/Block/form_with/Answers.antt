@@ -1,4 +1,4 @@
-use Rattle.std.proofs.Common.{◌≡◌, ◌∙◌, length, sym, ap, subst}
+use Rattle.std.proofs.Common.{◌∙◌, length, sym, ap, subst}
 use Rattle.memory_spec.specs.Viewed.{runs_of}
 use Rattle.term_norm_spec.specs.Normal.{normal}
 use Rattle.term_norm.proofs.Growth.{read}

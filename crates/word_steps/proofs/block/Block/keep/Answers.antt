@@ -1,4 +1,4 @@
-use Rattle.std.proofs.Common.{false, true, subst}
+use Rattle.std.proofs.Common.{subst}
 use Rattle.memory_spec.specs.Viewed.{runs_of}
 use Rattle.word_steps_spec.specs.Numbers.{reading}
 use Rattle.word_steps.specs.Views.{numbers_of, reading_of}

@@ -1,6 +1,6 @@
 use Rattle.std.proofs.Common.{◌∷◌, [], sym, ap, ◌∙◌, arith}
 use Rattle.memory_spec.specs.Viewed.{runs_of}
-use Rattle.term_norm.proofs.Growth.{read, within, stays, longer, extends_through}
+use Rattle.term_norm.proofs.Growth.{read}
 use Rattle.term_bank.specs.Nodes.{tree_at}
 use Rattle.word_steps_spec.specs.Lines as lines
 use Rattle.word_steps.specs.declared.number.Number.{Number}

@@ -1,9 +1,9 @@
-use Rattle.std.proofs.Common.{◌≡◌, Some, None, sym, ap, ◌∙◌, subst}
+use Rattle.std.proofs.Common.{◌≡◌, None, sym, ap, ◌∙◌, subst}
 use Rattle.std.specs.Prelude.{IfOk}
 use Rattle.memory_spec.specs.Viewed.{runs_of}
 use Rattle.term_bank.specs.Nodes.{Holds}
 use Rattle.word_steps.specs.declared.number.Number.{Number}
-use Rattle.word_steps.specs.Views.{number_in, merged_in}
+use Rattle.word_steps.specs.Views.{number_in}
 use Rattle.word_steps.proofs.Renewals.{is_other, merged_other, merged_rebuilt}
 use Rattle.word_steps.proofs.block.Block.merged_or_rebuilt.Goals as goal
 

@@ -1,4 +1,3 @@
-use Rattle.std.proofs.Common.{sym}
 use Rattle.memory_spec.specs.Viewed.{runs_of}
 use Rattle.word_steps.specs.Views.{count_of}
 use Rattle.word_steps.proofs.Arguing.{index_is_below}

@@ -1,5 +1,4 @@
-use Rattle.std.proofs.Common.{Some, None, suc, sym, ap, ◌∙◌}
-use Rattle.std.specs.Prelude.{Bool}
+use Rattle.std.proofs.Common.{suc, ap, ◌∙◌}
 use Rattle.std.proofs.lemmas.Result.{IfOk-weaker}
 use Rattle.memory_spec.specs.Viewed.{runs_of}
 use Rattle.term_bank.specs.Subterms.{arguments_of}

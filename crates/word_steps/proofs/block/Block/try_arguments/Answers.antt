@@ -1,5 +1,5 @@
 use Rattle.std.specs.Prelude.{◌||◌}
-use Rattle.std.proofs.Common.{false, suc, ◌+◌, ◌≡◌, refl, sym, ap, ◌∙◌, subst, arith, length}
+use Rattle.std.proofs.Common.{suc, ◌+◌, ◌≡◌, refl, sym, ap, ◌∙◌, subst, arith, length}
 use Rattle.memory_spec.specs.Viewed.{runs_of}
 use Rattle.term_bank.specs.Subterms.{arguments_of}
 use Rattle.word_steps_spec.specs.Lines as lines

@@ -1,0 +1,4 @@
+pub mod Extras
+pub mod Jobs
+pub mod Goals
+pub mod Points

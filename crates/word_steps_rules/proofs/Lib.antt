@@ -1,0 +1,10 @@
+pub mod Often
+pub mod Arguments
+pub mod Shifts
+pub mod Planned
+pub mod Differing
+pub mod Placed
+pub mod Filled
+pub mod Equalities
+pub mod Covered
+pub mod Known
