@@ -5,7 +5,7 @@ use Rattle.std.proofs.lemmas.Bool.{cases_eq, or_cases, eqb-true, leb-true}
 use Rattle.std.proofs.lemmas.List.Elements.{All-nil, All-cons, All-contains}
 use Rattle.term_core_spec.specs.declared.Variable.{Variable}
 use Rattle.term_core_spec.specs.Term.{open_term, truth}
-use Rattle.term_core_spec.specs.Value.{Truth, Assignment, value}
+use Rattle.term_core_spec.specs.Value.{Truth, Assignment}
 use Rattle.graph_core_spec.specs.Graph.{Binding}
 use Rattle.graph_core_spec.specs.Run.{bound, entered, is_shared, unset}
 use Rattle.decompile_spec.specs.State.{register, entry_register}

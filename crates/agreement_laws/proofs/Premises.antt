@@ -18,7 +18,7 @@ use Rattle.decompile_spec.specs.State.{entry_register}
 use Rattle.decompile_laws.proofs.Values.{equal_evaluates, words_evaluates, less_evaluates, not_evaluates, or_evaluates}
 use Rattle.sim_rules_spec.specs.Points.{entry_zone}
 use Rattle.sim_rules_spec.specs.Calling as calling
-use Rattle.sim_rules_spec.specs.Calling.{word, at_entry, zone_from, outside_zone, global_pointer_lines, entry_lines}
+use Rattle.sim_rules_spec.specs.Calling.{word, at_entry, zone_from, outside_zone, global_pointer_lines}
 use Rattle.agreement_laws.specs.EntryFrame.{Pair, convention_of, run_of, entry_premises}
 use Rattle.agreement_laws.proofs.ReadBack.{open_value, zone_from_is}
 

@@ -1,6 +1,5 @@
 -- No node of a unit's graphs binds an end of the zone.
-use Rattle.std.proofs.Common.{◌≡◌, ◌≢◌, ◌∙◌, ℕ, true, false, ◌<◌, length, get_or, slice_get, option_and_then, Option, Some, sym, ap}
-use Rattle.std.specs.List.{All}
+use Rattle.std.proofs.Common.{◌≡◌, ◌≢◌, ◌∙◌, ℕ, true, false, ◌<◌, length, get_or, slice_get, option_and_then, Some, sym, ap}
 use Rattle.std.proofs.lemmas.List.Elements.{All-weaker}
 use Rattle.std.proofs.lemmas.Option.{slice_get-get_or}
 use Rattle.term_core_spec.specs.declared.Variable.{Variable}
@@ -11,7 +10,7 @@ use Rattle.c_types_spec.specs.Core.{Typed}
 use Rattle.c_graph_spec.specs.Guards.{Place}
 use Rattle.c_graph_spec.specs.SourceGraph.{graphs_of}
 use Rattle.c_graph_laws.proofs.OwnBindings.{no_zone}
-use Rattle.sim_inline_laws.specs.Frames.{SparesIt, IsNeverBound}
+use Rattle.sim_inline_laws.specs.Frames.{IsNeverBound}
 
 node_of : (graphs : Graphs) (k m : ℕ) (d : Graph) (e : Node) → k < length graphs → m < length (get_or graphs k d).nodes → node_at graphs k m ≡ Some (get_or (get_or graphs k d).nodes m e)
 node_of graphs k m d e less within =

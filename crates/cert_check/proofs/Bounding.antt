@@ -1,7 +1,6 @@
 -- A line that excludes an arrival, as the definition's walk takes it.
-use Rattle.std.proofs.Common.{◌≡◌, ◌∙◌, ℕ, ◌<◌, ◌≤◌, ◌+◌, zero, suc, Box, Vec, Global, List, [], ◌∷◌, ◌++◌, length, map, Option, Some, None, Result, Ok, Err, refl, sym, ap, subst, arith}
-use Rattle.std.specs.Prelude.{nat_eq, Contains}
-use Rattle.std.specs.Map.{lookup}
+use Rattle.std.proofs.Common.{◌≡◌, ◌∙◌, ℕ, ◌≤◌, ◌+◌, zero, suc, Box, Vec, Global, List, [], ◌∷◌, ◌++◌, length, map, Option, Some, Result, Ok, Err, refl, sym, ap, ap₂, subst, arith}
+use Rattle.std.specs.Prelude.{Contains}
 use Rattle.std.proofs.lemmas.List.Elements.{Contains-push}
 use Rattle.term_core_spec.specs.Term.{Term}
 use Rattle.term_bank.specs.Nodes.{tree_at, Extends}
@@ -23,14 +22,13 @@ use Rattle.sim_rules.proofs.Counting.{one_shape}
 use Rattle.sim_rules.proofs.Held.{trees_held}
 use Rattle.attempt.specs.declared.refusal.Refusal.{Refusal}
 use Rattle.attempt.specs.declared.refusal.Refusal.TheVariants.{Fault, NoMemory}
-use Rattle.cert_text_spec.specs.Lines.{Line, RestrictBinary, RestrictSource}
+use Rattle.cert_text_spec.specs.Lines.{RestrictBinary, RestrictSource}
 use Rattle.cert_check_spec.specs.declared.RuleWord.TheVariants as fault
 use Rattle.tv_limits.specs.declared.Quantity.TheVariants as quantity
 use Rattle.tv_limits.specs.declared.TheConstants.{MAX_VISITS}
 use Rattle.cert_check_spec.specs.Verdict as listed
-use Rattle.cert_check_lines_spec.specs.Sites.{Part, CodeBody, SourceBody, IsBinaryNode, IsSourceNode, IsBinaryPoint, IsSourcePoint, IsNoCall}
+use Rattle.cert_check_lines_spec.specs.Sites.{Part, CodeBody, SourceBody, IsBinaryPoint, IsSourcePoint, IsNoCall}
 use Rattle.cert_check_lines_spec.specs.Jobs as spec
-use Rattle.cert_check_lines_spec.specs.Jobs.{AtEntry}
 use Rattle.cert_check_lines_spec.specs.LineRules as lines
 use Rattle.cert_check_lines_spec.specs.LineRules.{Passes, Fails}
 use Rattle.cert_check_lines_spec.specs.Parts.{Functions, Member, part_of, unfolded}
@@ -39,16 +37,18 @@ use Rattle.cert_check_frames.specs.Listed.{IsListed, frame_at}
 use Rattle.cert_check_jobs.specs.declared.extra.Extra.{Extra}
 use Rattle.cert_check_jobs.specs.declared.jobs.Job.{Job}
 use Rattle.cert_check_jobs.specs.declared.jobs.Job.TheVariants.{Prove}
-use Rattle.cert_check_jobs.specs.Extras.{Added, added_at, frame_added}
+use Rattle.cert_check_jobs.specs.Cuts.{Seen, Site, seen, start_seen}
+use Rattle.cert_check_jobs.specs.Extras.{Added, added_at, frame_added, opening_at, origin_of}
 use Rattle.cert_check.specs.Bounds.{HasBound}
 use Rattle.cert_check_jobs.specs.Jobs.{logs_last, AreInside}
-use Rattle.cert_check_jobs.specs.Points.{Finds, IsBinaryAt, IsSourceAt}
+use Rattle.cert_check_jobs.specs.Points.{IsBinaryAt, IsSourceAt}
 use Rattle.cert_check.specs.declared.fault.PartFault.{PartFault}
 use Rattle.cert_check.specs.declared.fault.PartFault.TheVariants.{Broken, Above}
-use Rattle.cert_check.specs.Jobs.{jobs_of}
+use Rattle.cert_check.specs.Jobs.{jobs_of, origin_at}
 use Rattle.cert_check.specs.Members.{IsMemberOf}
-use Rattle.cert_check.specs.Steps.{AreGoals, Bounds, Comes, HasRule, IsBounded, IsRestricted, ProvesFirst, bounded_on, rule_on}
+use Rattle.cert_check.specs.Steps.{AreGoals, Bounds, Comes, HasRule, IsRestricted, ProvesFirst, bounded_on, rule_on}
 use Rattle.cert_check.proofs.InPart.{IsPlainRule}
+use Rattle.cert_check.proofs.Origins.{cyclic_there, large_there, leaves, never_there}
 use Rattle.cert_check.proofs.Pushed.{inside_top, jobs_top, jobs_logs, same_added, same_jobs, with_binary, with_source}
 
 -- ---- walks
@@ -101,6 +101,13 @@ pub same_tests : (side : Which) (old new : Extra) (bound : Mark) → HasBound ol
 same_tests Binary old new bound has = has.premises
 same_tests Source old new bound has = has.premises
 
+pub same_cuts : (side : Which) (old new : Extra) (bound : Mark) → HasBound old bound new side → seen new.cuts.value ≡ seen old.cuts.value
+same_cuts Binary old new bound has = has.cuts
+same_cuts Source old new bound has = has.cuts
+
+same_start : (side : Which) (old new : Extra) (bound : Mark) → HasBound old bound new side → start_seen new.cuts.value.start ≡ start_seen old.cuts.value.start
+same_start side old new bound has = ap (λ (s : Seen). s.start) (same_cuts side old new bound has)
+
 with_bound : (trees : List Term) (f : Frame) (side : Which) (old new : Extra) (bound : Mark) → HasBound old bound new side
     → frame_added f (added_at trees new) ≡ bounded_on side (frame_added f (added_at trees old)) bound
 with_bound trees f Binary old new bound has = with_binary trees f old bound new has
@@ -111,31 +118,34 @@ module _ (code : Listed) (f : listed.Listed) (is : IsListed code f) (side : Whic
   abbrev frame : Frame
   frame = frame_added f.frame (added_at old x.value)
 
+  abbrev start : Option Site
+  start = start_seen x.value.cuts.value.start
+
   abbrev rest : List spec.Job
   rest = jobs_of old (frame_at code) below
 
-  proves : ProvesFirst f (jobs_of old (frame_at code) before) frame rest
+  proves : ProvesFirst f (jobs_of old (frame_at code) before) start frame rest
   proves = record {
     first =
         jobs_top old (frame_at code) before below (Prove x) first
-        ∙ ap (λ (g : Frame). spec.Prove AtEntry (frame_added g (added_at old x.value)) ∷ rest) (sym is.frame_is);
+        ∙ ap (λ (g : Frame). spec.Prove (origin_of start) (frame_added g (added_at old x.value)) ∷ rest) (sym is.frame_is);
     binary = refl;
     source = refl;
   }
 
   abbrev Answers : List Job → Result (Unit {0}) (Refusal PartFault) → Type 0
   Answers after result =
-      (frame : Frame) × (rest : List spec.Job) × Bounds f side bound (jobs_of old (frame_at code) before) (jobs_of new (frame_at code) after) frame rest result
+      (start : Option Site) × (frame : Frame) × (rest : List spec.Job) × Bounds f side bound (jobs_of old (frame_at code) before) (jobs_of new (frame_at code) after) start frame rest result
 
   -- a count 0
   pub no_count : (after : List Job) → bound.count ≡ 0 → Answers after (Err (Fault (Broken fault.Count)))
-  no_count after none = (frame, rest, (proves, none))
+  no_count after none = (start, frame, rest, (proves, none))
 
   -- no obligations
   pub no_goals : (after : List Job) (broken : Refusal PartFault) → 1 ≤ bound.count → AreGoals f new (added_at old x.value) (rule_on side bound) (Err broken) → Answers after (Err broken)
-  no_goals after (Fault (Broken fault.Cyclic)) counted has = (frame, rest, (proves, counted, has))
-  no_goals after (Fault (Above quantity.Visits)) counted has = (frame, rest, (proves, counted, has))
-  no_goals after NoMemory counted has = (frame, rest, tt)
+  no_goals after (Fault (Broken fault.Cyclic)) counted has = (start, frame, rest, (proves, counted, has))
+  no_goals after (Fault (Above quantity.Visits)) counted has = (start, frame, rest, (proves, counted, has))
+  no_goals after NoMemory counted has = (start, frame, rest, tt)
   no_goals after (Fault (Broken fault.Later)) counted has = absurd has
   no_goals after (Fault (Broken fault.Inline)) counted has = absurd has
   no_goals after (Fault (Broken fault.Point)) counted has = absurd has
@@ -165,22 +175,23 @@ module _ (code : Listed) (f : listed.Listed) (is : IsListed code f) (side : Whic
   -- the log, and the proof with the bound in force
   pub bounded : (after : List Job) (more : Box Extra Global) (goals : Vec ℕ Global) → Extends old new → AreInside (length old) (below ++ Prove x ∷ []) → 1 ≤ bound.count
       → HasBound x.value bound more.value side → after ≡ (below ++ Prove more ∷ []) ++ logs_last goals.items
-      → HasRule f.convention f.opening frame (rule_on side bound) new goals.items → Answers after (Ok (tt {0}))
+      → HasRule f.convention (opening_at f start) frame (rule_on side bound) new goals.items → Answers after (Ok (tt {0}))
   bounded after more goals extends inside counted has now rule_is =
       let terms = rule_is.are.terms in
       let held : map (tree_at new) goals.items ≡ terms = trees_held new goals.items terms rule_is.are.held in
       let parts = inside_top (length old) below (Prove x) inside in
-      let will : jobs_of new (frame_at code) after ≡ map spec.Close terms ++ spec.Prove AtEntry (bounded_on side frame bound) ∷ rest =
+      let will : jobs_of new (frame_at code) after ≡ map spec.Close terms ++ spec.Prove (origin_of start) (bounded_on side frame bound) ∷ rest =
       ap (jobs_of new (frame_at code)) now ∙ jobs_logs new (frame_at code) (below ++ Prove more ∷ []) goals.items
       ∙ ap (λ (list : List Term). map spec.Close list ++ jobs_of new (frame_at code) (below ++ Prove more ∷ [])) held
       ∙ ap (λ (jobs : List spec.Job). map spec.Close terms ++ jobs)
       (jobs_top new (frame_at code) (below ++ Prove more ∷ []) below (Prove more) refl
-      ∙ ap (λ (g : Frame). spec.Prove AtEntry g ∷ jobs_of new (frame_at code) below)
+      ∙ ap₂ (λ (s : Option Site) (g : Frame). spec.Prove (origin_of s) g ∷ jobs_of new (frame_at code) below) (same_start side x.value more.value bound has)
       (with_bound new (frame_at code) side x.value more.value bound has
       ∙ ap (λ (g : Frame). bounded_on side g bound)
       (ap (λ (added : Added). frame_added (frame_at code) added) (same_added old new extends x.value parts.1)
       ∙ ap (λ (g : Frame). frame_added g (added_at old x.value)) (sym is.frame_is)))
-      ∙ ap (λ (jobs : List spec.Job). spec.Prove AtEntry (bounded_on side frame bound) ∷ jobs) (same_jobs old new extends (frame_at code) below parts.0)) in (
+      ∙ ap (λ (jobs : List spec.Job). spec.Prove (origin_of start) (bounded_on side frame bound) ∷ jobs) (same_jobs old new extends (frame_at code) below parts.0)) in (
+        start,
         frame,
         rest,
         record {
@@ -219,13 +230,13 @@ module _ (fs : Functions) (parts : List Member) (m : Member) (at : ℕ) (code : 
     source_is : frame.source ≡ (frame_at code).source
     source_is = on_source ∙ ap (λ (f : Frame). f.source) is.listed.frame_is
 
-    binary_point : (point : BinaryPoint) (node : ℕ) → IsBinaryAt code point node → IsBinaryPoint part frame point node
+    pub binary_point : (point : BinaryPoint) (node : ℕ) → IsBinaryAt code point node → IsBinaryPoint part frame point node
     binary_point point node found = (
       record { body = code_body; is_body = Contains-push [] code_body; path = sym found.own; number = node; there = is.first point.address ∙ found.there; node_is = from_zero node },
       subst (λ s. IsNoCall s node) (sym binary_is) found.no_call,
     )
 
-    no_binary_point : (point : BinaryPoint) → ((node : ℕ) → IsBinaryAt code point node → ⊥) → (node : ℕ) → IsBinaryPoint part frame point node → ⊥
+    pub no_binary_point : (point : BinaryPoint) → ((node : ℕ) → IsBinaryAt code point node → ⊥) → (node : ℕ) → IsBinaryPoint part frame point node → ⊥
     no_binary_point point none node here =
         let body_is : here.0.body ≡ code_body = only_one code_body here.0.body here.0.is_body in
         let there = subst (λ (b : CodeBody). b.first point.address ≡ Some here.0.number) body_is here.0.there in
@@ -236,13 +247,13 @@ module _ (fs : Functions) (parts : List Member) (m : Member) (at : ℕ) (code : 
           no_call = subst (λ s. IsNoCall s node) binary_is here.1;
         })
 
-    source_point : (point : SourcePoint) (node : ℕ) → IsSourceAt code point node → IsSourcePoint part frame point node
+    pub source_point : (point : SourcePoint) (node : ℕ) → IsSourceAt code point node → IsSourcePoint part frame point node
     source_point point node found = (
       record { body = source_body; is_body = Contains-push [] source_body; path = sym found.own; number = node; there = is.node point.place ∙ found.there; node_is = from_zero node },
       subst (λ s. IsNoCall s node) (sym source_is) found.no_call,
     )
 
-    no_source_point : (point : SourcePoint) → ((node : ℕ) → IsSourceAt code point node → ⊥) → (node : ℕ) → IsSourcePoint part frame point node → ⊥
+    pub no_source_point : (point : SourcePoint) → ((node : ℕ) → IsSourceAt code point node → ⊥) → (node : ℕ) → IsSourcePoint part frame point node → ⊥
     no_source_point point none node here =
         let body_is : here.0.body ≡ source_body = only_one source_body here.0.body here.0.is_body in
         let there = subst (λ (b : SourceBody). b.node point.place ≡ Some here.0.number) body_is here.0.there in
@@ -261,53 +272,56 @@ module _ (fs : Functions) (parts : List Member) (m : Member) (at : ℕ) (code : 
       → Comes part at (jobs_of old (frame_at code) before) (jobs_of new (frame_at code) after) (RestrictBinary point count) result
   binary_comes old new before after point node count found (Ok done) is_so =
       let x = is_so m.listed is.listed in
-      let b = x.2 in
+      let b = x.3 in
       subst (λ (jobs : List spec.Job). Passes part at jobs (RestrictBinary point count) (jobs_of new (frame_at code) after)) (sym b.proves.first)
-      (subst (λ (jobs : List spec.Job). Passes part at (spec.Prove AtEntry x.0 ∷ x.1) (RestrictBinary point count) jobs) (sym b.now)
-      (lines.restrict_binary AtEntry x.0 x.1 point node count b.terms (binary_point x.0 b.proves.binary b.proves.source point node found) b.counted
-      (record { acyclic = b.left.acyclic; small = b.left.small; obligations = b.left.are })))
+      (subst (λ (jobs : List spec.Job). Passes part at (spec.Prove (origin_of x.0) x.1 ∷ x.2) (RestrictBinary point count) jobs) (sym b.now)
+      (lines.restrict_binary (origin_of x.0) x.1 x.2 point node count b.terms (binary_point x.1 b.proves.binary b.proves.source point node found) b.counted
+      (leaves parts m x.0 x.1 (rule.RestrictBinary (record { node = node; count = count })) b.terms b.left)))
   binary_comes old new before after point node count found (Err (Fault (Broken fault.Count))) is_so =
       let x = is_so m.listed is.listed in
-      let proves = x.2.0 in
-      subst (λ (n : ℕ). Fails part at (jobs_of old (frame_at code) before) (RestrictBinary point n) at (lines.Breaks fault.Count)) (sym x.2.1)
+      let proves = x.3.0 in
+      subst (λ (n : ℕ). Fails part at (jobs_of old (frame_at code) before) (RestrictBinary point n) at (lines.Breaks fault.Count)) (sym x.3.1)
       (subst (λ (jobs : List spec.Job). Fails part at jobs (RestrictBinary point 0) at (lines.Breaks fault.Count)) (sym proves.first)
-      (lines.binary_count AtEntry x.0 x.1 point node (binary_point x.0 proves.binary proves.source point node found)))
+      (lines.binary_count (origin_of x.0) x.1 x.2 point node (binary_point x.1 proves.binary proves.source point node found)))
   binary_comes old new before after point node count found (Err (Fault (Broken fault.Cyclic))) is_so =
       let x = is_so m.listed is.listed in
-      let proves = x.2.0 in
+      let proves = x.3.0 in
       subst (λ (jobs : List spec.Job). Fails part at jobs (RestrictBinary point count) at (lines.Breaks fault.Cyclic)) (sym proves.first)
-      (lines.binary_cyclic AtEntry x.0 x.1 point node count x.2.2.0 (binary_point x.0 proves.binary proves.source point node found) x.2.1 x.2.2.1)
+      (lines.binary_cyclic (origin_of x.0) x.1 x.2 point node count x.3.2.0 (binary_point x.1 proves.binary proves.source point node found) x.3.1
+      (cyclic_there parts m x.0 x.1 (rule.RestrictBinary (record { node = node; count = count })) x.3.2.0 x.3.2.1))
   binary_comes old new before after point node count found (Err (Fault (Above quantity.Visits))) is_so =
       let x = is_so m.listed is.listed in
-      let proves = x.2.0 in
+      let proves = x.3.0 in
       subst (λ (jobs : List spec.Job). Fails part at jobs (RestrictBinary point count) at (lines.Above quantity.Visits)) (sym proves.first)
-      (lines.binary_visits AtEntry x.0 x.1 point node count x.2.2.0 (binary_point x.0 proves.binary proves.source point node found) x.2.1
-      (binary_never (record { node = node; count = count }) m.listed.opening x.0 x.2.2.0 x.2.2.1) x.2.2.1)
+      (lines.binary_visits (origin_of x.0) x.1 x.2 point node count x.3.2.0 (binary_point x.1 proves.binary proves.source point node found) x.3.1
+      (never_there parts m x.0 x.1 (rule.RestrictBinary (record { node = node; count = count }))
+      (binary_never (record { node = node; count = count }) (opening_at m.listed x.0) x.1 x.3.2.0 x.3.2.1))
+      (large_there parts m x.0 x.1 (rule.RestrictBinary (record { node = node; count = count })) x.3.2.0 x.3.2.1))
   binary_comes old new before after point node count found (Err NoMemory) is_so = tt
-  binary_comes old new before after point node count found (Err (Fault (Broken fault.Later))) is_so = absurd (is_so m.listed is.listed).2
-  binary_comes old new before after point node count found (Err (Fault (Broken fault.Inline))) is_so = absurd (is_so m.listed is.listed).2
-  binary_comes old new before after point node count found (Err (Fault (Broken fault.Point))) is_so = absurd (is_so m.listed is.listed).2
-  binary_comes old new before after point node count found (Err (Fault (Broken fault.Callee))) is_so = absurd (is_so m.listed is.listed).2
-  binary_comes old new before after point node count found (Err (Fault (Broken fault.Passed))) is_so = absurd (is_so m.listed is.listed).2
-  binary_comes old new before after point node count found (Err (Fault (Broken fault.Same))) is_so = absurd (is_so m.listed is.listed).2
-  binary_comes old new before after point node count found (Err (Fault (Broken fault.Word))) is_so = absurd (is_so m.listed is.listed).2
-  binary_comes old new before after point node count found (Err (Fault (Broken fault.Stranger))) is_so = absurd (is_so m.listed is.listed).2
-  binary_comes old new before after point node count found (Err (Fault (Broken fault.Stack))) is_so = absurd (is_so m.listed is.listed).2
-  binary_comes old new before after point node count found (Err (Fault (Broken fault.Sort))) is_so = absurd (is_so m.listed is.listed).2
-  binary_comes old new before after point node count found (Err (Fault (Broken fault.Logs))) is_so = absurd (is_so m.listed is.listed).2
-  binary_comes old new before after point node count found (Err (Fault (Broken fault.Step))) is_so = absurd (is_so m.listed is.listed).2
-  binary_comes old new before after point node count found (Err (Fault (Broken fault.Unclosed))) is_so = absurd (is_so m.listed is.listed).2
-  binary_comes old new before after point node count found (Err (Fault (Broken fault.Missing))) is_so = absurd (is_so m.listed is.listed).2
-  binary_comes old new before after point node count found (Err (Fault (Above quantity.Terms))) is_so = absurd (is_so m.listed is.listed).2
-  binary_comes old new before after point node count found (Err (Fault (Above quantity.Variables))) is_so = absurd (is_so m.listed is.listed).2
-  binary_comes old new before after point node count found (Err (Fault (Above quantity.Elf))) is_so = absurd (is_so m.listed is.listed).2
-  binary_comes old new before after point node count found (Err (Fault (Above quantity.C))) is_so = absurd (is_so m.listed is.listed).2
-  binary_comes old new before after point node count found (Err (Fault (Above quantity.Functions))) is_so = absurd (is_so m.listed is.listed).2
-  binary_comes old new before after point node count found (Err (Fault (Above quantity.Nodes))) is_so = absurd (is_so m.listed is.listed).2
-  binary_comes old new before after point node count found (Err (Fault (Above quantity.Certificate))) is_so = absurd (is_so m.listed is.listed).2
-  binary_comes old new before after point node count found (Err (Fault (Above quantity.Call))) is_so = absurd (is_so m.listed is.listed).2
-  binary_comes old new before after point node count found (Err (Fault (Above quantity.Steps))) is_so = absurd (is_so m.listed is.listed).2
-  binary_comes old new before after point node count found (Err (Fault (Above quantity.Known))) is_so = absurd (is_so m.listed is.listed).2
+  binary_comes old new before after point node count found (Err (Fault (Broken fault.Later))) is_so = absurd (is_so m.listed is.listed).3
+  binary_comes old new before after point node count found (Err (Fault (Broken fault.Inline))) is_so = absurd (is_so m.listed is.listed).3
+  binary_comes old new before after point node count found (Err (Fault (Broken fault.Point))) is_so = absurd (is_so m.listed is.listed).3
+  binary_comes old new before after point node count found (Err (Fault (Broken fault.Callee))) is_so = absurd (is_so m.listed is.listed).3
+  binary_comes old new before after point node count found (Err (Fault (Broken fault.Passed))) is_so = absurd (is_so m.listed is.listed).3
+  binary_comes old new before after point node count found (Err (Fault (Broken fault.Same))) is_so = absurd (is_so m.listed is.listed).3
+  binary_comes old new before after point node count found (Err (Fault (Broken fault.Word))) is_so = absurd (is_so m.listed is.listed).3
+  binary_comes old new before after point node count found (Err (Fault (Broken fault.Stranger))) is_so = absurd (is_so m.listed is.listed).3
+  binary_comes old new before after point node count found (Err (Fault (Broken fault.Stack))) is_so = absurd (is_so m.listed is.listed).3
+  binary_comes old new before after point node count found (Err (Fault (Broken fault.Sort))) is_so = absurd (is_so m.listed is.listed).3
+  binary_comes old new before after point node count found (Err (Fault (Broken fault.Logs))) is_so = absurd (is_so m.listed is.listed).3
+  binary_comes old new before after point node count found (Err (Fault (Broken fault.Step))) is_so = absurd (is_so m.listed is.listed).3
+  binary_comes old new before after point node count found (Err (Fault (Broken fault.Unclosed))) is_so = absurd (is_so m.listed is.listed).3
+  binary_comes old new before after point node count found (Err (Fault (Broken fault.Missing))) is_so = absurd (is_so m.listed is.listed).3
+  binary_comes old new before after point node count found (Err (Fault (Above quantity.Terms))) is_so = absurd (is_so m.listed is.listed).3
+  binary_comes old new before after point node count found (Err (Fault (Above quantity.Variables))) is_so = absurd (is_so m.listed is.listed).3
+  binary_comes old new before after point node count found (Err (Fault (Above quantity.Elf))) is_so = absurd (is_so m.listed is.listed).3
+  binary_comes old new before after point node count found (Err (Fault (Above quantity.C))) is_so = absurd (is_so m.listed is.listed).3
+  binary_comes old new before after point node count found (Err (Fault (Above quantity.Functions))) is_so = absurd (is_so m.listed is.listed).3
+  binary_comes old new before after point node count found (Err (Fault (Above quantity.Nodes))) is_so = absurd (is_so m.listed is.listed).3
+  binary_comes old new before after point node count found (Err (Fault (Above quantity.Certificate))) is_so = absurd (is_so m.listed is.listed).3
+  binary_comes old new before after point node count found (Err (Fault (Above quantity.Call))) is_so = absurd (is_so m.listed is.listed).3
+  binary_comes old new before after point node count found (Err (Fault (Above quantity.Steps))) is_so = absurd (is_so m.listed is.listed).3
+  binary_comes old new before after point node count found (Err (Fault (Above quantity.Known))) is_so = absurd (is_so m.listed is.listed).3
 
   -- there is no such node
   pub binary_nowhere : (old : List Term) (before below : List Job) (x : Box Extra Global) (point : BinaryPoint) (count : ℕ) → before ≡ below ++ Prove x ∷ []
@@ -317,8 +331,8 @@ module _ (fs : Functions) (parts : List Member) (m : Member) (at : ℕ) (code : 
       let rest = jobs_of old (frame_at code) below in
       subst (λ (jobs : List spec.Job). Fails part at jobs (RestrictBinary point count) at (lines.Breaks fault.Point))
       (sym (jobs_top old (frame_at code) before below (Prove x) first
-      ∙ ap (λ (g : Frame). spec.Prove AtEntry (frame_added g (added_at old x.value)) ∷ rest) (sym is.listed.frame_is)))
-      (lines.binary_point AtEntry frame rest point count (no_binary_point frame refl refl point none))
+      ∙ ap (λ (g : Frame). spec.Prove (origin_at x.value) (frame_added g (added_at old x.value)) ∷ rest) (sym is.listed.frame_is)))
+      (lines.binary_point (origin_at x.value) frame rest point count (no_binary_point frame refl refl point none))
 
   -- what the line comes to where its point is a node of the source
   pub source_comes : (old new : List Term) (before after : List Job) (point : SourcePoint) (node count : ℕ) → IsSourceAt code point node → (result : Result (Unit {0}) (Refusal PartFault))
@@ -326,53 +340,56 @@ module _ (fs : Functions) (parts : List Member) (m : Member) (at : ℕ) (code : 
       → Comes part at (jobs_of old (frame_at code) before) (jobs_of new (frame_at code) after) (RestrictSource point count) result
   source_comes old new before after point node count found (Ok done) is_so =
       let x = is_so m.listed is.listed in
-      let b = x.2 in
+      let b = x.3 in
       subst (λ (jobs : List spec.Job). Passes part at jobs (RestrictSource point count) (jobs_of new (frame_at code) after)) (sym b.proves.first)
-      (subst (λ (jobs : List spec.Job). Passes part at (spec.Prove AtEntry x.0 ∷ x.1) (RestrictSource point count) jobs) (sym b.now)
-      (lines.restrict_source AtEntry x.0 x.1 point node count b.terms (source_point x.0 b.proves.binary b.proves.source point node found) b.counted
-      (record { acyclic = b.left.acyclic; small = b.left.small; obligations = b.left.are })))
+      (subst (λ (jobs : List spec.Job). Passes part at (spec.Prove (origin_of x.0) x.1 ∷ x.2) (RestrictSource point count) jobs) (sym b.now)
+      (lines.restrict_source (origin_of x.0) x.1 x.2 point node count b.terms (source_point x.1 b.proves.binary b.proves.source point node found) b.counted
+      (leaves parts m x.0 x.1 (rule.RestrictSource (record { node = node; count = count })) b.terms b.left)))
   source_comes old new before after point node count found (Err (Fault (Broken fault.Count))) is_so =
       let x = is_so m.listed is.listed in
-      let proves = x.2.0 in
-      subst (λ (n : ℕ). Fails part at (jobs_of old (frame_at code) before) (RestrictSource point n) at (lines.Breaks fault.Count)) (sym x.2.1)
+      let proves = x.3.0 in
+      subst (λ (n : ℕ). Fails part at (jobs_of old (frame_at code) before) (RestrictSource point n) at (lines.Breaks fault.Count)) (sym x.3.1)
       (subst (λ (jobs : List spec.Job). Fails part at jobs (RestrictSource point 0) at (lines.Breaks fault.Count)) (sym proves.first)
-      (lines.source_count AtEntry x.0 x.1 point node (source_point x.0 proves.binary proves.source point node found)))
+      (lines.source_count (origin_of x.0) x.1 x.2 point node (source_point x.1 proves.binary proves.source point node found)))
   source_comes old new before after point node count found (Err (Fault (Broken fault.Cyclic))) is_so =
       let x = is_so m.listed is.listed in
-      let proves = x.2.0 in
+      let proves = x.3.0 in
       subst (λ (jobs : List spec.Job). Fails part at jobs (RestrictSource point count) at (lines.Breaks fault.Cyclic)) (sym proves.first)
-      (lines.source_cyclic AtEntry x.0 x.1 point node count x.2.2.0 (source_point x.0 proves.binary proves.source point node found) x.2.1 x.2.2.1)
+      (lines.source_cyclic (origin_of x.0) x.1 x.2 point node count x.3.2.0 (source_point x.1 proves.binary proves.source point node found) x.3.1
+      (cyclic_there parts m x.0 x.1 (rule.RestrictSource (record { node = node; count = count })) x.3.2.0 x.3.2.1))
   source_comes old new before after point node count found (Err (Fault (Above quantity.Visits))) is_so =
       let x = is_so m.listed is.listed in
-      let proves = x.2.0 in
+      let proves = x.3.0 in
       subst (λ (jobs : List spec.Job). Fails part at jobs (RestrictSource point count) at (lines.Above quantity.Visits)) (sym proves.first)
-      (lines.source_visits AtEntry x.0 x.1 point node count x.2.2.0 (source_point x.0 proves.binary proves.source point node found) x.2.1
-      (source_never (record { node = node; count = count }) m.listed.opening x.0 x.2.2.0 x.2.2.1) x.2.2.1)
+      (lines.source_visits (origin_of x.0) x.1 x.2 point node count x.3.2.0 (source_point x.1 proves.binary proves.source point node found) x.3.1
+      (never_there parts m x.0 x.1 (rule.RestrictSource (record { node = node; count = count }))
+      (source_never (record { node = node; count = count }) (opening_at m.listed x.0) x.1 x.3.2.0 x.3.2.1))
+      (large_there parts m x.0 x.1 (rule.RestrictSource (record { node = node; count = count })) x.3.2.0 x.3.2.1))
   source_comes old new before after point node count found (Err NoMemory) is_so = tt
-  source_comes old new before after point node count found (Err (Fault (Broken fault.Later))) is_so = absurd (is_so m.listed is.listed).2
-  source_comes old new before after point node count found (Err (Fault (Broken fault.Inline))) is_so = absurd (is_so m.listed is.listed).2
-  source_comes old new before after point node count found (Err (Fault (Broken fault.Point))) is_so = absurd (is_so m.listed is.listed).2
-  source_comes old new before after point node count found (Err (Fault (Broken fault.Callee))) is_so = absurd (is_so m.listed is.listed).2
-  source_comes old new before after point node count found (Err (Fault (Broken fault.Passed))) is_so = absurd (is_so m.listed is.listed).2
-  source_comes old new before after point node count found (Err (Fault (Broken fault.Same))) is_so = absurd (is_so m.listed is.listed).2
-  source_comes old new before after point node count found (Err (Fault (Broken fault.Word))) is_so = absurd (is_so m.listed is.listed).2
-  source_comes old new before after point node count found (Err (Fault (Broken fault.Stranger))) is_so = absurd (is_so m.listed is.listed).2
-  source_comes old new before after point node count found (Err (Fault (Broken fault.Stack))) is_so = absurd (is_so m.listed is.listed).2
-  source_comes old new before after point node count found (Err (Fault (Broken fault.Sort))) is_so = absurd (is_so m.listed is.listed).2
-  source_comes old new before after point node count found (Err (Fault (Broken fault.Logs))) is_so = absurd (is_so m.listed is.listed).2
-  source_comes old new before after point node count found (Err (Fault (Broken fault.Step))) is_so = absurd (is_so m.listed is.listed).2
-  source_comes old new before after point node count found (Err (Fault (Broken fault.Unclosed))) is_so = absurd (is_so m.listed is.listed).2
-  source_comes old new before after point node count found (Err (Fault (Broken fault.Missing))) is_so = absurd (is_so m.listed is.listed).2
-  source_comes old new before after point node count found (Err (Fault (Above quantity.Terms))) is_so = absurd (is_so m.listed is.listed).2
-  source_comes old new before after point node count found (Err (Fault (Above quantity.Variables))) is_so = absurd (is_so m.listed is.listed).2
-  source_comes old new before after point node count found (Err (Fault (Above quantity.Elf))) is_so = absurd (is_so m.listed is.listed).2
-  source_comes old new before after point node count found (Err (Fault (Above quantity.C))) is_so = absurd (is_so m.listed is.listed).2
-  source_comes old new before after point node count found (Err (Fault (Above quantity.Functions))) is_so = absurd (is_so m.listed is.listed).2
-  source_comes old new before after point node count found (Err (Fault (Above quantity.Nodes))) is_so = absurd (is_so m.listed is.listed).2
-  source_comes old new before after point node count found (Err (Fault (Above quantity.Certificate))) is_so = absurd (is_so m.listed is.listed).2
-  source_comes old new before after point node count found (Err (Fault (Above quantity.Call))) is_so = absurd (is_so m.listed is.listed).2
-  source_comes old new before after point node count found (Err (Fault (Above quantity.Steps))) is_so = absurd (is_so m.listed is.listed).2
-  source_comes old new before after point node count found (Err (Fault (Above quantity.Known))) is_so = absurd (is_so m.listed is.listed).2
+  source_comes old new before after point node count found (Err (Fault (Broken fault.Later))) is_so = absurd (is_so m.listed is.listed).3
+  source_comes old new before after point node count found (Err (Fault (Broken fault.Inline))) is_so = absurd (is_so m.listed is.listed).3
+  source_comes old new before after point node count found (Err (Fault (Broken fault.Point))) is_so = absurd (is_so m.listed is.listed).3
+  source_comes old new before after point node count found (Err (Fault (Broken fault.Callee))) is_so = absurd (is_so m.listed is.listed).3
+  source_comes old new before after point node count found (Err (Fault (Broken fault.Passed))) is_so = absurd (is_so m.listed is.listed).3
+  source_comes old new before after point node count found (Err (Fault (Broken fault.Same))) is_so = absurd (is_so m.listed is.listed).3
+  source_comes old new before after point node count found (Err (Fault (Broken fault.Word))) is_so = absurd (is_so m.listed is.listed).3
+  source_comes old new before after point node count found (Err (Fault (Broken fault.Stranger))) is_so = absurd (is_so m.listed is.listed).3
+  source_comes old new before after point node count found (Err (Fault (Broken fault.Stack))) is_so = absurd (is_so m.listed is.listed).3
+  source_comes old new before after point node count found (Err (Fault (Broken fault.Sort))) is_so = absurd (is_so m.listed is.listed).3
+  source_comes old new before after point node count found (Err (Fault (Broken fault.Logs))) is_so = absurd (is_so m.listed is.listed).3
+  source_comes old new before after point node count found (Err (Fault (Broken fault.Step))) is_so = absurd (is_so m.listed is.listed).3
+  source_comes old new before after point node count found (Err (Fault (Broken fault.Unclosed))) is_so = absurd (is_so m.listed is.listed).3
+  source_comes old new before after point node count found (Err (Fault (Broken fault.Missing))) is_so = absurd (is_so m.listed is.listed).3
+  source_comes old new before after point node count found (Err (Fault (Above quantity.Terms))) is_so = absurd (is_so m.listed is.listed).3
+  source_comes old new before after point node count found (Err (Fault (Above quantity.Variables))) is_so = absurd (is_so m.listed is.listed).3
+  source_comes old new before after point node count found (Err (Fault (Above quantity.Elf))) is_so = absurd (is_so m.listed is.listed).3
+  source_comes old new before after point node count found (Err (Fault (Above quantity.C))) is_so = absurd (is_so m.listed is.listed).3
+  source_comes old new before after point node count found (Err (Fault (Above quantity.Functions))) is_so = absurd (is_so m.listed is.listed).3
+  source_comes old new before after point node count found (Err (Fault (Above quantity.Nodes))) is_so = absurd (is_so m.listed is.listed).3
+  source_comes old new before after point node count found (Err (Fault (Above quantity.Certificate))) is_so = absurd (is_so m.listed is.listed).3
+  source_comes old new before after point node count found (Err (Fault (Above quantity.Call))) is_so = absurd (is_so m.listed is.listed).3
+  source_comes old new before after point node count found (Err (Fault (Above quantity.Steps))) is_so = absurd (is_so m.listed is.listed).3
+  source_comes old new before after point node count found (Err (Fault (Above quantity.Known))) is_so = absurd (is_so m.listed is.listed).3
 
   -- there is no such node
   pub source_nowhere : (old : List Term) (before below : List Job) (x : Box Extra Global) (point : SourcePoint) (count : ℕ) → before ≡ below ++ Prove x ∷ []
@@ -382,5 +399,5 @@ module _ (fs : Functions) (parts : List Member) (m : Member) (at : ℕ) (code : 
       let rest = jobs_of old (frame_at code) below in
       subst (λ (jobs : List spec.Job). Fails part at jobs (RestrictSource point count) at (lines.Breaks fault.Point))
       (sym (jobs_top old (frame_at code) before below (Prove x) first
-      ∙ ap (λ (g : Frame). spec.Prove AtEntry (frame_added g (added_at old x.value)) ∷ rest) (sym is.listed.frame_is)))
-      (lines.source_point AtEntry frame rest point count (no_source_point frame refl refl point none))
+      ∙ ap (λ (g : Frame). spec.Prove (origin_at x.value) (frame_added g (added_at old x.value)) ∷ rest) (sym is.listed.frame_is)))
+      (lines.source_point (origin_at x.value) frame rest point count (no_source_point frame refl refl point none))

@@ -1,5 +1,5 @@
 -- What a line does to a checker, by what it does to its walk and to its log.
-use Rattle.std.proofs.Common.{◌≡◌, ◌∙◌, ◌⊎◌, inl, inr, ℕ, zero, suc, ◌+◌, ◌<◌, Bool, true, false, List, [], ◌∷◌, ◌++◌, length, Option, Some, None, Result, Ok, Err, refl, sym, ap, subst, arith}
+use Rattle.std.proofs.Common.{◌≡◌, ◌∙◌, ◌⊎◌, inl, inr, ℕ, suc, ◌<◌, true, false, List, [], ◌∷◌, ◌++◌, length, Option, Some, None, Ok, Err, refl, sym, ap, subst}
 use Rattle.std.specs.Prelude.{replicate, slice_get}
 use Rattle.std.proofs.lemmas.List.{same_from_push}
 use Rattle.std.proofs.lemmas.Option.{same_Some}
@@ -7,7 +7,7 @@ use Rattle.clause_check_spec.specs.Log.{Step}
 use Rattle.discharge.specs.Closers.{OpenLog, open_of, with_step}
 use Rattle.attempt.specs.declared.refusal.Refusal.{Refusal}
 use Rattle.attempt.specs.declared.refusal.Refusal.TheVariants.{Fault, NoMemory}
-use Rattle.cert_text_spec.specs.Lines.{Line, Log, LogStep, End, line_text}
+use Rattle.cert_text_spec.specs.Lines.{Line, Log, LogStep, End}
 use Rattle.cert_text_spec.specs.Certificates.{Expected, ALog, AStep, after, can_stand, is_step}
 use Rattle.cert_check_lines_spec.specs.Jobs.{InLog}
 use Rattle.cert_check_spec.specs.declared.RuleWord.TheVariants as fault
@@ -16,7 +16,6 @@ use Rattle.cert_check_lines_spec.specs.Parts as rules
 use Rattle.cert_check_lines_spec.specs.Parts.{Functions, Member, State, Inside, part_of, unfolded}
 use Rattle.cert_check_lines_spec.specs.Walk.{Going, Stopped, Takes}
 use Rattle.cert_check_lines_spec.specs.Walk as walks
-use Rattle.cert_check_lines_spec.specs.Known.{is_known}
 use Rattle.cert_check_frames.specs.declared.listed.Listed.{Listed}
 use Rattle.cert_check.specs.declared.fault.NamedFault.{NamedFault}
 use Rattle.cert_check.specs.declared.fault.NamedFault.TheVariants.{Broken, Above}

@@ -1,5 +1,5 @@
 -- What a line does to the walk, in the definition's terms.
-use Rattle.std.proofs.Common.{◌≡◌, ◌∙◌, inl, inr, ℕ, ◌+◌, ◌<◌, ◌≤◌, true, false, Vec, Global, List, [], ◌∷◌, ◌++◌, length, get_or, take, Some, None, Result, Ok, Err, refl, sym, ap, subst, arith, length-append}
+use Rattle.std.proofs.Common.{◌≡◌, ◌∙◌, inl, inr, ℕ, ◌+◌, ◌<◌, ◌≤◌, true, false, Vec, Global, List, [], ◌∷◌, ◌++◌, length, get_or, take, Some, None, Result, Ok, Err, refl, sym, ap, subst, arith}
 use Rattle.std.specs.Prelude.{slice_get}
 use Rattle.std.proofs.lemmas.List.{take_more, take_all, same_from_push}
 use Rattle.std.proofs.lemmas.List.Elements.{All-push}
@@ -8,8 +8,7 @@ use Rattle.std.proofs.lemmas.Result.{on_ok_weaker}
 use Rattle.cert_text_parse.specs.declared.lines.Line.{Line as CodeLine}
 use Rattle.cert_text_parse.specs.declared.lines.Line.TheVariants as code
 use Rattle.cert_text_parse.specs.Views.{line_of}
-use Rattle.cert_text_spec.specs.declared.Symbol.{Symbol}
-use Rattle.cert_text_spec.specs.Lines.{Line, Header, Function, Relation, End, line_text}
+use Rattle.cert_text_spec.specs.Lines.{Line, Header, Function, End}
 use Rattle.cert_text_spec.specs.Certificates.{Expected, AHeader, TheParts, BinaryInlines, SourceInlines, AProof, ARelation, ALog, AStep, after, can_stand, is_header, is_part}
 use Rattle.proof_tree_spec.specs.Frames.{Frame}
 use Rattle.cert_check_lines_spec.specs.Sites.{Part}
@@ -35,7 +34,7 @@ use Rattle.cert_check_frames.specs.declared.listed.Listed.{Listed}
 use Rattle.cert_check.specs.declared.walk.Walk.{Walk}
 use Rattle.cert_check_frames.specs.Listed.{frame_at}
 use Rattle.cert_check.specs.Jobs.{jobs_of}
-use Rattle.cert_check.specs.Expectations.{IsOfProof, of_binary, of_source, of_proof, AreOf, no_job, a_proof, a_log, IsNext, AreAfter}
+use Rattle.cert_check.specs.Expectations.{IsOfProof, of_binary, of_source, of_proof, AreOf, no_job, a_proof, a_relation, a_log, IsNext, AreAfter}
 use Rattle.cert_check.specs.Steps.{Comes, IsStep}
 use Rattle.cert_check_frames.specs.Parts.{AreIndices, IsNamed, HasPart, IsFreeAt, IsMissingAt}
 use Rattle.cert_check.specs.Members.{AreMembers, IsMemberOf}
@@ -80,6 +79,7 @@ never_header _ (of_proof room) is = absurd (cc)
 alone_of : (e : Expected) (others : List Expected) (jobs : List Job) → AreOf (e ∷ others) jobs → e ≡ TheParts → others ≡ []
 alone_of _ _ _ no_job is = refl
 alone_of e others jobs (a_proof _ _ below _ x of are same) is = absurd (never_part e of is)
+alone_of _ others jobs (a_relation _ more room below _ reading are rest same) is = absurd (cc)
 alone_of _ others jobs (a_log _ below _ goal are same) is = absurd (cc)
 
 alone : (walk : Walk) (e : Expected) (others : List Expected) → Expecting walk (e ∷ others) → e ≡ TheParts → others ≡ []
@@ -90,6 +90,7 @@ alone walk e others (in_part _ some are) is = alone_of e others walk.jobs.items 
 header_of : (e : Expected) (others : List Expected) (jobs : List Job) → AreOf (e ∷ others) jobs → e ≡ AHeader → ⊥
 header_of _ _ _ no_job is = absurd (cc)
 header_of e others jobs (a_proof _ _ below _ x of are same) is = never_header e of is
+header_of _ others jobs (a_relation _ more room below _ reading are rest same) is = absurd (cc)
 header_of _ others jobs (a_log _ below _ goal are same) is = absurd (cc)
 
 -- before the version there is no part
@@ -124,6 +125,7 @@ header_goes codes walk index at =
 jobs_none : (e : Expected) (others : List Expected) (jobs : List Job) → AreOf (e ∷ others) jobs → e ≡ TheParts → jobs ≡ []
 jobs_none _ _ _ no_job is = refl
 jobs_none e others jobs (a_proof _ _ below _ x of are same) is = absurd (never_part e of is)
+jobs_none _ others jobs (a_relation _ more room below _ reading are rest same) is = absurd (cc)
 jobs_none _ others jobs (a_log _ below _ goal are same) is = absurd (cc)
 
 no_spec_jobs : (walk : Walk) (function : Listed) → walk.jobs.items ≡ [] → walk_jobs walk function ≡ []
@@ -513,33 +515,24 @@ module _ (codes : List Listed) (old now : Walk) (line : CodeLine) (index part : 
         steps_inside result goes.parts fs members offset s x (goes.step fs x.parts x.f offset x.is);
   }
 
-no_relation : (e : Expected) → IsOfProof e → (t : List Symbol) → can_stand e (Relation t) ≡ true → ⊥
-no_relation _ of_binary t h = absurd (cc)
-no_relation _ of_source t h = absurd (cc)
-no_relation _ (of_proof room) t h = absurd (cc)
-
-never_relation : (t : List Symbol) (e : Expected) (others : List Expected) (jobs : List Job) → AreOf (e ∷ others) jobs → can_stand e (Relation t) ≡ true → ⊥
-never_relation t _ _ _ no_job h = absurd (cc)
-never_relation t e others jobs (a_proof _ _ below _ x of are same) h = no_relation e of t h
-never_relation t _ others jobs (a_log _ below _ goal are same) h = absurd (cc)
-
--- a line that is no log, Leaf or Case and of a rule that is checked can't be next
+-- another line that is no log and of a rule that is checked can't be next
 pub no_other_line : (line : CodeLine) (jobs : List Job) → IsNext jobs (line_of line) → IsInside line → is_known (line_of line) ≡ true → ((n : ℕ) → line ≡ code.Leaf n → ⊥)
-    → ((t : _) → line ≡ code.Case t → ⊥) → ((r : _) → line ≡ code.RestrictBinary r → ⊥) → ((r : _) → line ≡ code.RestrictSource r → ⊥) → IsPlain line → ⊥
-no_other_line code.Header jobs next is checked no_leaf no_case no_binary no_source plain = absurd (cc)
-no_other_line (code.Function part) jobs next is checked no_leaf no_case no_binary no_source plain = absurd (cc)
-no_other_line (code.InlineBinary p) jobs next is checked no_leaf no_case no_binary no_source plain = absurd (cc)
-no_other_line (code.InlineSource p) jobs next is checked no_leaf no_case no_binary no_source plain = absurd (cc)
-no_other_line (code.Leaf n) jobs next is checked no_leaf no_case no_binary no_source plain = no_leaf n refl
-no_other_line (code.Case t) jobs next is checked no_leaf no_case no_binary no_source plain = no_case t refl
-no_other_line (code.RestrictBinary r) jobs next is checked no_leaf no_case no_binary no_source plain = no_binary r refl
-no_other_line (code.RestrictSource r) jobs next is checked no_leaf no_case no_binary no_source plain = no_source r refl
-no_other_line (code.Split s) jobs next is checked no_leaf no_case no_binary no_source plain = absurd (cc)
-no_other_line (code.Call c) jobs next is checked no_leaf no_case no_binary no_source plain = absurd (cc)
-no_other_line (code.Relation t) jobs next is checked no_leaf no_case no_binary no_source plain = never_relation t.value.items next.expected next.others jobs next.are next.allowed
-no_other_line (code.Log n) jobs next is checked no_leaf no_case no_binary no_source plain = absurd (cc)
-no_other_line (code.Step k h) jobs next is checked no_leaf no_case no_binary no_source plain = absurd (cc)
-no_other_line code.End jobs next is checked no_leaf no_case no_binary no_source plain = absurd (cc)
+    → ((t : _) → line ≡ code.Case t → ⊥) → ((r : _) → line ≡ code.RestrictBinary r → ⊥) → ((r : _) → line ≡ code.RestrictSource r → ⊥) → ((s : _) → line ≡ code.Split s → ⊥)
+    → ((t : _) → line ≡ code.Relation t → ⊥) → IsPlain line → ⊥
+no_other_line code.Header jobs next is checked no_leaf no_case no_binary no_source no_split no_relation plain = absurd (cc)
+no_other_line (code.Function part) jobs next is checked no_leaf no_case no_binary no_source no_split no_relation plain = absurd (cc)
+no_other_line (code.InlineBinary p) jobs next is checked no_leaf no_case no_binary no_source no_split no_relation plain = absurd (cc)
+no_other_line (code.InlineSource p) jobs next is checked no_leaf no_case no_binary no_source no_split no_relation plain = absurd (cc)
+no_other_line (code.Leaf n) jobs next is checked no_leaf no_case no_binary no_source no_split no_relation plain = no_leaf n refl
+no_other_line (code.Case t) jobs next is checked no_leaf no_case no_binary no_source no_split no_relation plain = no_case t refl
+no_other_line (code.RestrictBinary r) jobs next is checked no_leaf no_case no_binary no_source no_split no_relation plain = no_binary r refl
+no_other_line (code.RestrictSource r) jobs next is checked no_leaf no_case no_binary no_source no_split no_relation plain = no_source r refl
+no_other_line (code.Split s) jobs next is checked no_leaf no_case no_binary no_source no_split no_relation plain = no_split s refl
+no_other_line (code.Call c) jobs next is checked no_leaf no_case no_binary no_source no_split no_relation plain = absurd (cc)
+no_other_line (code.Relation t) jobs next is checked no_leaf no_case no_binary no_source no_split no_relation plain = no_relation t refl
+no_other_line (code.Log n) jobs next is checked no_leaf no_case no_binary no_source no_split no_relation plain = absurd (cc)
+no_other_line (code.Step k h) jobs next is checked no_leaf no_case no_binary no_source no_split no_relation plain = absurd (cc)
+no_other_line code.End jobs next is checked no_leaf no_case no_binary no_source no_split no_relation plain = absurd (cc)
 
 -- ---- the outcome of a line inside a part
 

@@ -1,13 +1,13 @@
 -- What the grammar expects of lines one after the other.
-use Rattle.std.proofs.Common.{◌≡◌, ℕ, ◌<◌, true, List, [], ◌∷◌, ◌++◌, length, refl, subst}
+use Rattle.std.proofs.Common.{◌≡◌, ℕ, true, List, [], ◌∷◌, ◌++◌, refl, subst}
 use Rattle.clause_check_spec.specs.Log.{Step}
 use Rattle.cert_text_spec.specs.Derivation as derivation
 use Rattle.cert_text_spec.specs.Derivation.{Derives}
 use Rattle.cert_text_spec.specs.Lines.{Line, Log, LogStep, End}
-use Rattle.cert_text_spec.specs.Certificates.{Expected, AHeader, TheParts, BinaryInlines, SourceInlines, AProof, ARelation, ALog, AStep, Fits, after, can_stand, is_step}
+use Rattle.cert_text_spec.specs.Certificates.{Expected, AHeader, TheParts, BinaryInlines, SourceInlines, AProof, ARelation, ALog, AStep, Fits, after, can_stand}
 use Rattle.cert_check_jobs.specs.declared.jobs.Job.{Job}
 use Rattle.cert_check.specs.declared.walk.Walk.{Walk}
-use Rattle.cert_check.specs.Expectations.{IsOfProof, of_binary, of_source, of_proof, AreOf, no_job, a_proof, a_log}
+use Rattle.cert_check.specs.Expectations.{IsOfProof, of_binary, of_source, of_proof, AreOf, no_job, a_proof, a_relation, a_log}
 use Rattle.cert_check.specs.Walks.{Expecting, at_header, at_first, in_part}
 
 -- ---- lines
@@ -53,6 +53,7 @@ never_end _ (of_proof room) h = absurd (cc)
 no_step_of : (others : List Expected) (e : Expected) (jobs : List Job) → e ≡ AStep → AreOf (e ∷ others) jobs → ⊥
 no_step_of others _ _ is no_job = absurd (cc)
 no_step_of others e jobs is (a_proof _ _ below _ x of are same) = no_proof_is_step (subst IsOfProof is of)
+no_step_of others _ jobs is (a_relation _ more room below _ reading are rest same) = absurd (cc)
 no_step_of others _ jobs is (a_log _ below _ goal are same) = absurd (cc)
 
 pub no_step : (walk : Walk) (e : Expected) (others : List Expected) → e ≡ AStep → Expecting walk (e ∷ others) → ⊥
@@ -66,6 +67,7 @@ no_step walk e others is (in_part _ some are) = no_step_of others e walk.jobs.it
 ends_of : (e : Expected) (others : List Expected) (jobs : List Job) → AreOf (e ∷ others) jobs → can_stand e End ≡ true → after e End ++ others ≡ []
 ends_of _ _ _ no_job allowed = refl
 ends_of e others jobs (a_proof _ _ below _ x of are same) allowed = absurd (never_end e of allowed)
+ends_of _ others jobs (a_relation _ more room below _ reading are rest same) allowed = absurd (cc)
 ends_of _ others jobs (a_log _ below _ goal are same) allowed = absurd (cc)
 
 pub ends : (walk : Walk) (e : Expected) (others : List Expected) → Expecting walk (e ∷ others) → can_stand e End ≡ true → after e End ++ others ≡ []

@@ -1,5 +1,5 @@
 -- Lines inside a part, as the definition's walk takes them.
-use Rattle.std.proofs.Common.{◌≡◌, ◌∙◌, inl, inr, ℕ, true, Box, Vec, Global, List, [], ◌∷◌, ◌++◌, length, map, Ok, Err, sym, ap, subst}
+use Rattle.std.proofs.Common.{◌≡◌, ◌∙◌, inl, inr, ℕ, Box, Vec, Global, List, [], ◌∷◌, ◌++◌, length, map, Result, Ok, Err, sym, ap, subst}
 use Rattle.std.proofs.lemmas.List.{length-map}
 use Rattle.std.proofs.lemmas.Option.{get_or_from_slice_get, slice_get_within}
 use Rattle.term_core_spec.specs.Term.{Term, not_term}
@@ -14,7 +14,7 @@ use Rattle.sim_rules_spec.specs.Points.{Convention}
 use Rattle.sim_rules_spec.specs.Rules.{Opening, AreOfLeaf}
 use Rattle.sim_rules_spec.specs.Sides.{binary_way, source_way}
 use Rattle.visit_walk_spec.proofs.Order.{acyclic}
-use Rattle.sim_rules.specs.Outcome.{AreObligations, IsRuleFault, HasFewVisits}
+use Rattle.sim_rules.specs.Outcome.{IsRuleFault}
 use Rattle.attempt.specs.declared.refusal.Refusal.{Refusal}
 use Rattle.attempt.specs.declared.refusal.Refusal.TheVariants.{Fault, NoMemory}
 use Rattle.sim_rules_spec.proofs.OnSides.{cyclic_on, large_on}
@@ -32,7 +32,6 @@ use Rattle.cert_check_spec.specs.Terms.{IsTermOf}
 use Rattle.cert_check_spec.specs.Verdict as listed
 use Rattle.cert_check_lines_spec.specs.Sites.{Part}
 use Rattle.cert_check_lines_spec.specs.Jobs as spec
-use Rattle.cert_check_lines_spec.specs.Jobs.{AtEntry}
 use Rattle.cert_check_lines_spec.specs.LineRules as lines
 use Rattle.cert_check_lines_spec.specs.LineRules.{Passes, Fails, with_test}
 use Rattle.cert_check_lines_spec.specs.Parts.{Functions, Member, part_of, unfolded}
@@ -44,11 +43,13 @@ use Rattle.cert_check_jobs.specs.declared.jobs.Job.{Job}
 use Rattle.cert_check_jobs.specs.declared.jobs.Job.TheVariants.{Prove}
 use Rattle.cert_check_frames.specs.declared.listed.Listed.{Listed}
 use Rattle.cert_check_frames.specs.Listed.{IsListed, frame_at}
-use Rattle.cert_check_jobs.specs.Extras.{Added, added_at, frame_added}
+use Rattle.cert_check_jobs.specs.Cuts.{start_seen}
+use Rattle.cert_check_jobs.specs.Extras.{Added, added_at, frame_added, opening_at}
 use Rattle.cert_check_jobs.specs.Jobs.{logs_last, AreInside, HasBranches}
-use Rattle.cert_check.specs.Jobs.{jobs_of}
+use Rattle.cert_check.specs.Jobs.{jobs_of, origin_at, start_path}
 use Rattle.cert_check.specs.Members.{IsMemberOf}
 use Rattle.cert_check.specs.Steps.{Comes, AreGoals, AreGoalsOf, HasRule, IsTestAt, goal_fault_of}
+use Rattle.cert_check.proofs.Origins.{cyclic_there, large_there, leaves, never_there}
 use Rattle.cert_check.proofs.Pushed.{jobs_top, jobs_logs, branches_jobs, same_jobs}
 
 -- ---- Leaf
@@ -63,14 +64,14 @@ module _ (fs : Functions) (parts : List Member) (m : Member) (at : ℕ) (code : 
   -- a Leaf whose frame is first passes, where there are as many logs as obligations
   pub leaf_passes : (old new : List Term) (before below after : List Job) (x : Box Extra Global) (goals : Vec ℕ Global) → Extends old new
       → before ≡ below ++ Prove x ∷ [] → AreInside (length old) below → after ≡ below ++ logs_last goals.items
-      → HasRule f.convention f.opening (frame_added f.frame (added_at old x.value)) rule.Leaf new goals.items
+      → HasRule f.convention (opening_at f (start_seen x.value.cuts.value.start)) (frame_added f.frame (added_at old x.value)) rule.Leaf new goals.items
       → Passes part at (jobs_of old (frame_at code) before) (Leaf (length goals.items)) (jobs_of new (frame_at code) after)
   leaf_passes old new before below after x goals extends first inside now has =
       let frame = frame_added f.frame (added_at old x.value) in
       let rest = jobs_of old (frame_at code) below in
-      let was : jobs_of old (frame_at code) before ≡ spec.Prove AtEntry frame ∷ rest =
+      let was : jobs_of old (frame_at code) before ≡ spec.Prove (origin_at x.value) frame ∷ rest =
       jobs_top old (frame_at code) before below (Prove x) first
-      ∙ ap (λ (g : Frame). spec.Prove AtEntry (frame_added g (added_at old x.value)) ∷ rest) (sym is.listed.frame_is) in
+      ∙ ap (λ (g : Frame). spec.Prove (origin_at x.value) (frame_added g (added_at old x.value)) ∷ rest) (sym is.listed.frame_is) in
       let are = has.are in
       let terms : map (tree_at new) goals.items ≡ are.terms = trees_held new goals.items are.terms are.held in
       let will : jobs_of new (frame_at code) after ≡ map spec.Close are.terms ++ rest =
@@ -79,53 +80,54 @@ module _ (fs : Functions) (parts : List Member) (m : Member) (at : ℕ) (code : 
       ∙ ap (λ (list : List Term). map spec.Close list ++ rest) terms in
       let count : length are.terms ≡ length goals.items = ap length (sym terms) ∙ length-map goals.items (tree_at new) in
       subst (λ (jobs : List spec.Job). Passes part at jobs (Leaf (length goals.items)) (jobs_of new (frame_at code) after)) (sym was)
-      (subst (λ (jobs : List spec.Job). Passes part at (spec.Prove AtEntry frame ∷ rest) (Leaf (length goals.items)) jobs) (sym will)
-      (subst (λ (n : ℕ). Passes part at (spec.Prove AtEntry frame ∷ rest) (Leaf n) (map spec.Close are.terms ++ rest)) count
-      (lines.leaf AtEntry frame rest are.terms (record { acyclic = has.acyclic; small = has.small; obligations = are.are }))))
+      (subst (λ (jobs : List spec.Job). Passes part at (spec.Prove (origin_at x.value) frame ∷ rest) (Leaf (length goals.items)) jobs) (sym will)
+      (subst (λ (n : ℕ). Passes part at (spec.Prove (origin_at x.value) frame ∷ rest) (Leaf n) (map spec.Close are.terms ++ rest)) count
+      (lines.leaf (origin_at x.value) frame rest are.terms
+      (leaves parts m (start_seen x.value.cuts.value.start) frame rule.Leaf are.terms (record { acyclic = has.acyclic; small = has.small; are = are.are })))))
 
   -- what a line breaks where a proof is first
-  at_proof : (old : List Term) (before below : List Job) (x : Box Extra Global) (line : Line) (broken : lines.Fault) → before ≡ below ++ Prove x ∷ []
-      → Fails part at (spec.Prove AtEntry (frame_added f.frame (added_at old x.value)) ∷ jobs_of old (frame_at code) below) line at broken
+  pub at_proof : (old : List Term) (before below : List Job) (x : Box Extra Global) (line : Line) (broken : lines.Fault) → before ≡ below ++ Prove x ∷ []
+      → Fails part at (spec.Prove (origin_at x.value) (frame_added f.frame (added_at old x.value)) ∷ jobs_of old (frame_at code) below) line at broken
       → Fails part at (jobs_of old (frame_at code) before) line at broken
   at_proof old before below x line broken first fails =
       subst (λ (jobs : List spec.Job). Fails part at jobs line at broken)
       (sym (jobs_top old (frame_at code) before below (Prove x) first
-      ∙ ap (λ (g : Frame). spec.Prove AtEntry (frame_added g (added_at old x.value)) ∷ jobs_of old (frame_at code) below) (sym is.listed.frame_is)))
+      ∙ ap (λ (g : Frame). spec.Prove (origin_at x.value) (frame_added g (added_at old x.value)) ∷ jobs_of old (frame_at code) below) (sym is.listed.frame_is)))
       fails
 
   -- ---- Case
 
   pub case_passes : (old new : List Term) (before below after : List Job) (x : Box Extra Global) (symbols : List Symbol) (test : ℕ) → Extends old new
       → before ≡ below ++ Prove x ∷ [] → AreInside (length old) below → added_at new x.value ≡ added_at old x.value
-      → HasBranches below after x.value test → IsTestAt f symbols new (Ok test)
+      → HasBranches below after x.value test → IsTestAt f (start_path f.frame x.value) symbols new (Ok test)
       → Passes part at (jobs_of old (frame_at code) before) (Case symbols) (jobs_of new (frame_at code) after)
   case_passes old new before below after x symbols test extends first inside same has tested =
       let frame = frame_added f.frame (added_at old x.value) in
       let rest = jobs_of old (frame_at code) below in
-      let was : jobs_of old (frame_at code) before ≡ spec.Prove AtEntry frame ∷ rest =
+      let was : jobs_of old (frame_at code) before ≡ spec.Prove (origin_at x.value) frame ∷ rest =
       jobs_top old (frame_at code) before below (Prove x) first
-      ∙ ap (λ (g : Frame). spec.Prove AtEntry (frame_added g (added_at old x.value)) ∷ rest) (sym is.listed.frame_is) in
-      let both = λ (g : Frame) (jobs : List spec.Job). spec.Prove AtEntry (with_test g (tree_at new test)) ∷ spec.Prove AtEntry (with_test g (not_term (tree_at new test))) ∷ jobs in
+      ∙ ap (λ (g : Frame). spec.Prove (origin_at x.value) (frame_added g (added_at old x.value)) ∷ rest) (sym is.listed.frame_is) in
+      let both = λ (g : Frame) (jobs : List spec.Job). spec.Prove (origin_at x.value) (with_test g (tree_at new test)) ∷ spec.Prove (origin_at x.value) (with_test g (not_term (tree_at new test))) ∷ jobs in
       let will : jobs_of new (frame_at code) after ≡ both frame rest =
       branches_jobs new (frame_at code) below after x.value test has
       ∙ ap (λ (added : Added). both (frame_added (frame_at code) added) (jobs_of new (frame_at code) below)) same
       ∙ ap (λ (g : Frame). both (frame_added g (added_at old x.value)) (jobs_of new (frame_at code) below)) (sym is.listed.frame_is)
       ∙ ap (λ (jobs : List spec.Job). both frame jobs) (same_jobs old new extends (frame_at code) below inside) in
       subst (λ (jobs : List spec.Job). Passes part at jobs (Case symbols) (jobs_of new (frame_at code) after)) (sym was)
-      (subst (λ (jobs : List spec.Job). Passes part at (spec.Prove AtEntry frame ∷ rest) (Case symbols) jobs) (sym will)
-      (lines.case AtEntry frame rest symbols (tree_at new test)
+      (subst (λ (jobs : List spec.Job). Passes part at (spec.Prove (origin_at x.value) frame ∷ rest) (Case symbols) jobs) (sym will)
+      (lines.case (origin_at x.value) frame rest symbols (tree_at new test)
       (record { spelled = tested.1.spelled; line = tested.1.line })))
 
   pub case_fails : (old : List Term) (before below : List Job) (x : Box Extra Global) (symbols : List Symbol) → before ≡ below ++ Prove x ∷ []
-      → ((test : Term) → lines.IsRead f.frame f.frame.start.path symbols test → ⊥) → Fails part at (jobs_of old (frame_at code) before) (Case symbols) at (lines.Breaks fault.Sort)
+      → ((test : Term) → lines.IsRead f.frame (start_path f.frame x.value) symbols test → ⊥) → Fails part at (jobs_of old (frame_at code) before) (Case symbols) at (lines.Breaks fault.Sort)
   case_fails old before below x symbols first none =
       at_proof old before below x (Case symbols) (lines.Breaks fault.Sort) first
-      (lines.case_sort AtEntry (frame_added f.frame (added_at old x.value)) (jobs_of old (frame_at code) below) symbols
+      (lines.case_sort (origin_at x.value) (frame_added f.frame (added_at old x.value)) (jobs_of old (frame_at code) below) symbols
       (λ test is_test. none test (record { spelled = is_test.spelled; line = is_test.line })))
 
   -- what a Case fails for, where its test isn't read
   pub test_fails : (old new : List Term) (before below after : List Job) (x : Box Extra Global) (symbols : List Symbol) (broken : Refusal PartFault) → before ≡ below ++ Prove x ∷ []
-      → IsTestAt f symbols new (Err broken) → Comes part at (jobs_of old (frame_at code) before) (jobs_of new (frame_at code) after) (Case symbols) (Err broken)
+      → IsTestAt f (start_path f.frame x.value) symbols new (Err broken) → Comes part at (jobs_of old (frame_at code) before) (jobs_of new (frame_at code) after) (Case symbols) (Err broken)
   test_fails old new before below after x symbols (Fault (Broken fault.Sort)) first none = case_fails old before below x symbols first none
   test_fails old new before below after x symbols NoMemory first none = tt
   test_fails old new before below after x symbols (Fault (Broken fault.Later)) first none = absurd none
@@ -148,8 +150,8 @@ module _ (fs : Functions) (parts : List Member) (m : Member) (at : ℕ) (code : 
   -- ---- why a Leaf fails
 
   -- where walks have too many visits, none that has to end is cyclic
-  never_cyclic : (frame : Frame) (count : ℕ) → rule.IsLargeRule f.opening frame MAX_VISITS rule.Leaf count → (node : ℕ) → rule.IsCyclicRule f.opening frame rule.Leaf node → ⊥
-  never_cyclic frame count large node cyclic = elim cyclic [
+  never_cyclic : (o : Opening) (frame : Frame) (count : ℕ) → rule.IsLargeRule o frame MAX_VISITS rule.Leaf count → (node : ℕ) → rule.IsCyclicRule o frame rule.Leaf node → ⊥
+  never_cyclic o frame count large node cyclic = elim cyclic [
     | inl of_binary ↦ large.0 node of_binary
     | inr of_source ↦ large.1 node of_source.1
   ]
@@ -159,11 +161,14 @@ module _ (fs : Functions) (parts : List Member) (m : Member) (at : ℕ) (code : 
       → Comes part at (jobs_of old (frame_at code) before) (jobs_of new (frame_at code) after) (Leaf logs) (Err broken)
   leaf_fails old new before below after x logs (Fault (Broken fault.Cyclic)) first has =
       at_proof old before below x (Leaf logs) (lines.Breaks fault.Cyclic) first
-      (lines.leaf_cyclic AtEntry (frame_added f.frame (added_at old x.value)) (jobs_of old (frame_at code) below) logs has.0 has.1)
+      (lines.leaf_cyclic (origin_at x.value) (frame_added f.frame (added_at old x.value)) (jobs_of old (frame_at code) below) logs has.0
+      (cyclic_there parts m (start_seen x.value.cuts.value.start) (frame_added f.frame (added_at old x.value)) rule.Leaf has.0 has.1))
   leaf_fails old new before below after x logs (Fault (Above quantity.Visits)) first has =
       let frame = frame_added f.frame (added_at old x.value) in
+      let start = start_seen x.value.cuts.value.start in
       at_proof old before below x (Leaf logs) (lines.Above quantity.Visits) first
-      (lines.leaf_visits AtEntry frame (jobs_of old (frame_at code) below) logs has.0 (never_cyclic frame has.0 has.1) has.1)
+      (lines.leaf_visits (origin_at x.value) frame (jobs_of old (frame_at code) below) logs has.0
+      (never_there parts m start frame rule.Leaf (never_cyclic (opening_at f start) frame has.0 has.1)) (large_there parts m start frame rule.Leaf has.0 has.1))
   leaf_fails old new before below after x logs NoMemory first has = tt
   leaf_fails old new before below after x logs (Fault (Broken fault.Later)) first has = absurd has
   leaf_fails old new before below after x logs (Fault (Broken fault.Inline)) first has = absurd has
@@ -193,37 +198,38 @@ module _ (fs : Functions) (parts : List Member) (m : Member) (at : ℕ) (code : 
 
   -- another number of logs
   pub logs_fail : (old new : List Term) (before below : List Job) (x : Box Extra Global) (logs : ℕ) (goals : Vec ℕ Global) → before ≡ below ++ Prove x ∷ []
-      → HasRule f.convention f.opening (frame_added f.frame (added_at old x.value)) rule.Leaf new goals.items → (length goals.items ≡ logs → ⊥)
+      → HasRule f.convention (opening_at f (start_seen x.value.cuts.value.start)) (frame_added f.frame (added_at old x.value)) rule.Leaf new goals.items → (length goals.items ≡ logs → ⊥)
       → Fails part at (jobs_of old (frame_at code) before) (Leaf logs) at (lines.Breaks fault.Logs)
   logs_fail old new before below x logs goals first has other =
       let are = has.are in
       let count : length are.terms ≡ length goals.items = ap length (sym (trees_held new goals.items are.terms are.held)) ∙ length-map goals.items (tree_at new) in
       at_proof old before below x (Leaf logs) (lines.Breaks fault.Logs) first
-      (lines.leaf_logs AtEntry (frame_added f.frame (added_at old x.value)) (jobs_of old (frame_at code) below) logs are.terms
-      (record { acyclic = has.acyclic; small = has.small; obligations = are.are })
+      (lines.leaf_logs (origin_at x.value) (frame_added f.frame (added_at old x.value)) (jobs_of old (frame_at code) below) logs are.terms
+      (leaves parts m (start_seen x.value.cuts.value.start) (frame_added f.frame (added_at old x.value)) rule.Leaf are.terms
+      (record { acyclic = has.acyclic; small = has.small; are = are.are }))
       (λ same. other (sym (same ∙ count))))
 
 -- ---- the parts of a line
 
 -- the test that was read
-pub test_read : (code : Listed) (f : listed.Listed) → IsListed code f → (symbols : List Symbol) (trees : List Term) (id : ℕ)
-    → IsOfLine (setting_of code.setting.now) code.path.now symbols trees id → IsTestAt f symbols trees (Ok id)
-test_read code f is symbols trees id of_line =
+pub test_read : (code : Listed) (f : listed.Listed) → IsListed code f → (path : List ℕ) (symbols : List Symbol) (trees : List Term) (id : ℕ)
+    → IsOfLine (setting_of code.setting.now) path symbols trees id → IsTestAt f path symbols trees (Ok id)
+test_read code f is path symbols trees id of_line =
     let same : of_line.line ≡ tree_at trees id = sym (get_or_from_slice_get trees id of_line.line _ of_line.held) in (
       slice_get_within trees id of_line.line of_line.held,
-      subst (λ (frame : Frame). lines.IsRead frame frame.start.path symbols (tree_at trees id)) (sym is.frame_is)
+      subst (λ (frame : Frame). lines.IsRead frame path symbols (tree_at trees id)) (sym is.frame_is)
           (record {
             spelled = subst (IsTermOf (setting_of code.setting.now) symbols) same of_line.spelled;
-            line = subst (IsProofLine (setting_of code.setting.now) code.path.now) same of_line.is_line;
+            line = subst (IsProofLine (setting_of code.setting.now) path) same of_line.is_line;
           }),
     )
 
 -- there is none
-pub no_test : (code : Listed) (f : listed.Listed) → IsListed code f → (symbols : List Symbol) (trees : List Term)
-    → IsRead (setting_of code.setting.now) code.path.now symbols trees (Err (Fault term_fault.Sort)) → IsTestAt f symbols trees (Err (Fault (Broken fault.Sort)))
-no_test code f is symbols trees none = λ test is_test.
+pub no_test : (code : Listed) (f : listed.Listed) → IsListed code f → (path : List ℕ) (symbols : List Symbol) (trees : List Term)
+    → IsRead (setting_of code.setting.now) path symbols trees (Err (Fault term_fault.Sort)) → IsTestAt f path symbols trees (Err (Fault (Broken fault.Sort)))
+no_test code f is path symbols trees none = λ test is_test.
     let apart = subst (λ (frame : Frame). AreApart frame.setting.bodies) is.frame_is is.apart in
-    let here = subst (λ (frame : Frame). lines.IsRead frame frame.start.path symbols test) is.frame_is is_test in
+    let here = subst (λ (frame : Frame). lines.IsRead frame path symbols test) is.frame_is is_test in
     none apart test here.spelled here.line
 
 -- why there are no obligations, as the fault of a line
@@ -254,15 +260,21 @@ module _ (f : listed.Listed) (trees old : List Term) (r : Rule) (plain : IsPlain
   abbrev frame : Frame
   frame = frame_added f.frame (added_at old x)
 
-  pub goals_for : (goals : Vec ℕ Global) → AnswersRule f (frame_added f.frame (added_at old lent)) r trees (Ok goals) → AreGoals f trees (added_at old x) r (Ok goals)
+  abbrev opens : Opening
+  opens = opening_at f (start_seen x.cuts.value.start)
+
+  -- the rule's answer where the frame has that more
+  abbrev pub Answers : Extra → Result (Vec ℕ Global) (Refusal RuleFault) → Type 0
+  Answers e result = AnswersRule f (opening_at f (start_seen e.cuts.value.start)) (frame_added f.frame (added_at old e)) r trees result
+
+  pub goals_for : (goals : Vec ℕ Global) → Answers lent (Ok goals) → AreGoals f trees (added_at old x) r (Ok goals)
   goals_for goals has =
-      let here = subst (λ (e : Extra). AnswersRule f (frame_added f.frame (added_at old e)) r trees (Ok goals)) same has in
-      record { acyclic = plain.acyclic f.convention f.opening frame here.are.terms here.are.are; small = here.few; are = here.are }
+      let here = subst (λ (e : Extra). Answers e (Ok goals)) same has in
+      record { acyclic = plain.acyclic f.convention opens frame here.are.terms here.are.are; small = here.few; are = here.are }
 
   -- or why there are none
-  pub fault_for : (error : Refusal RuleFault) (fault : Refusal PartFault) → fault ≡ goal_fault_of error
-      → AnswersRule f (frame_added f.frame (added_at old lent)) r trees (Err error) → AreGoals f trees (added_at old x) r (Err fault)
+  pub fault_for : (error : Refusal RuleFault) (fault : Refusal PartFault) → fault ≡ goal_fault_of error → Answers lent (Err error)
+      → AreGoals f trees (added_at old x) r (Err fault)
   fault_for error fault is broken =
-      subst (λ (x : Refusal PartFault). AreGoalsOf f.convention f.opening frame r trees (Err x)) (sym is)
-      (goals_fail f.convention f.opening frame r trees error (plain.lines frame)
-      (subst (λ (e : Extra). AnswersRule f (frame_added f.frame (added_at old e)) r trees (Err error)) same broken))
+      subst (λ (x : Refusal PartFault). AreGoalsOf f.convention opens frame r trees (Err x)) (sym is)
+      (goals_fail f.convention opens frame r trees error (plain.lines frame) (subst (λ (e : Extra). Answers e (Err error)) same broken))

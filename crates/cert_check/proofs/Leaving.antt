@@ -6,16 +6,17 @@ use Rattle.term_core_spec.specs.declared.Variable.{Variable}
 use Rattle.term_core_spec.specs.Term.{Term}
 use Rattle.term_bank.specs.Nodes.{Extends}
 use Rattle.sim_rules_terms.proofs.Later.{map_later}
-use Rattle.cert_check_frames.specs.declared.jobs.Branch.{Branch}
 use Rattle.cert_check_frames.specs.Jobs.{AreBelow}
 use Rattle.cert_check_jobs.specs.declared.extra.Extra.{Extra}
 use Rattle.cert_check_jobs.specs.declared.jobs.Job.{Job}
 use Rattle.cert_check_jobs.specs.declared.jobs.Job.TheVariants.{Prove}
 use Rattle.cert_check_frames.specs.declared.listed.Listed.{Listed}
 use Rattle.cert_check_frames.specs.Listed.{terms_given}
+use Rattle.cert_check_jobs.specs.Cuts.{goals_seen, seen}
+use Rattle.cert_check_jobs.specs.Extras.{IsBelow}
 use Rattle.cert_check_jobs.specs.Jobs.{logs_last, IsInside, AreInside, HasBranches}
 use Rattle.cert_check.specs.Steps.{IsKeptBy}
-use Rattle.cert_check.proofs.Pushed.{inside_top, inside_later, inside_pushed, logs_inside, below_later, branches_inside}
+use Rattle.cert_check.proofs.Pushed.{inside_top, inside_later, inside_pushed, logs_inside, ap_below, extra_later, branches_inside}
 
 -- ---- ids of a bank that grows
 
@@ -53,15 +54,19 @@ pub case_kept : (code : Listed) (old new : List Term) (binary source : Variable 
 case_kept code old new binary source before below after x test kept grows is has within =
     let apart = inside_top (length old) below (Prove x) (subst (AreInside (length old)) is kept.inside) in
     kept_on code old new binary source before after kept grows
-    (branches_inside (length new) below after x.value test has (inside_later old new grows below apart.0) (below_later old new grows x.value.premises.items apart.1) within)
+    (branches_inside (length new) below after x.value test has (inside_later old new grows below apart.0) (extra_later old new grows x.value apart.1) within)
 
 -- logs, and the proof of a frame with the same premises
 pub bounded_kept : (code : Listed) (old new : List Term) (binary source : Variable → Option ℕ) (before below after : List Job) (x more : Box Extra Global) (goals : List ℕ)
     → IsKeptBy code old binary source before → Extends old new → before ≡ below ++ Prove x ∷ [] → more.value.premises.items ≡ x.value.premises.items
-    → All (λ (g : ℕ). g < length new) goals → after ≡ (below ++ Prove more ∷ []) ++ logs_last goals → IsKeptBy code new binary source after
-bounded_kept code old new binary source before below after x more goals kept grows is same within now =
+    → seen more.value.cuts.value ≡ seen x.value.cuts.value → All (λ (g : ℕ). g < length new) goals → after ≡ (below ++ Prove more ∷ []) ++ logs_last goals → IsKeptBy code new binary source after
+bounded_kept code old new binary source before below after x more goals kept grows is same same_cuts within now =
     let apart = inside_top (length old) below (Prove x) (subst (AreInside (length old)) is kept.inside) in
-    let below_new = subst (AreBelow (length new)) (sym same) (below_later old new grows x.value.premises.items apart.1) in
+    let later = extra_later old new grows x.value apart.1 in
+    let below_new : IsBelow (length new) more.value = record {
+      premises = subst (AreBelow (length new)) (sym same) later.premises;
+      goals = ap_below (length new) (goals_seen x.value.cuts.value.goals.items) more.value same_cuts later.goals;
+    } in
     kept_on code old new binary source before after kept grows
     (subst (AreInside (length new)) (sym now)
     (All-append (IsInside (length new)) (below ++ Prove more ∷ []) (logs_last goals)

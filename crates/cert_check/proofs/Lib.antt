@@ -1,9 +1,11 @@
 pub mod Taking
 pub mod Pushed
+pub mod Origins
 pub mod Tops
 pub mod Leaving
 pub mod InPart
 pub mod Bounding
+pub mod Splitting
 pub mod Opened
 pub mod Picked
 pub mod States

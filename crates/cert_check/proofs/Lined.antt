@@ -1,13 +1,13 @@
 -- The lines of a certificate one after the other, and what a checker that is given them has come to.
-use Rattle.std.proofs.Common.{◌≡◌, ◌∙◌, ◌⊎◌, inl, inr, ℕ, zero, suc, ◌+◌, ◌<◌, ◌≤◌, true, List, [], ◌∷◌, ◌++◌, length, map, get_or, take, drop, Option, Some, Ok, Err, refl, sym, ap, subst, arith, length-append, append-nil, take-append-drop}
+use Rattle.std.proofs.Common.{◌≡◌, ◌∙◌, ◌⊎◌, inl, inr, ℕ, zero, suc, ◌+◌, ◌<◌, ◌≤◌, true, List, [], ◌∷◌, ◌++◌, length, get_or, take, drop, Option, Some, Ok, Err, refl, sym, ap, subst, arith, length-append, append-nil, take-append-drop}
 use Rattle.std.specs.Prelude.{slice_get, option_map, option_and_then, replicate}
 use Rattle.std.specs.Borrow.{Bor}
 use Rattle.std.proofs.lemmas.Option.{slice_get-get_or, same_Some}
-use Rattle.std.proofs.lemmas.List.{drop_all, drop_more, flat_map_more, take_all}
+use Rattle.std.proofs.lemmas.List.{drop_all, drop_more, flat_map_more}
 use Rattle.cert_text_parse.specs.declared.lines.Literal.{Literal}
 use Rattle.cert_text_parse.specs.declared.lines.Line.{Line as CodeLine}
 use Rattle.cert_text_parse.specs.declared.lines.Line.TheVariants as code
-use Rattle.cert_text_parse.specs.Views.{line_of, line_at, literals_in, hints_in}
+use Rattle.cert_text_parse.specs.Views.{line_at, literals_in, hints_in}
 use Rattle.cert_text.specs.declared.certificates.Cert.{Cert}
 use Rattle.cert_text.specs.Certificates.{lines_of, certificate_of, text_of}
 use Rattle.cert_text.specs.Laws.{AreLines}
@@ -25,7 +25,7 @@ use Rattle.cert_check_lines_spec.specs.Parts as rules
 use Rattle.cert_check_lines_spec.specs.Parts.{Functions, Member, State, Between}
 use Rattle.cert_check_lines_spec.specs.Walk.{Progress, Going, Stopped, before_all, Takes, goes_on, stays, TakesAll, no_line, one_line}
 use Rattle.cert_check_lines_spec.specs.Members.{members_of}
-use Rattle.cert_check_lines_spec.specs.Known.{is_known, IsProof, IsFault, IsLimit}
+use Rattle.cert_check_lines_spec.specs.Known.{is_known, IsProof}
 use Rattle.cert_check_lines_spec.proofs.Members.{no_functions}
 use Rattle.cert_check.proofs.Picked.{members_listed}
 use Rattle.attempt.specs.declared.refusal.Refusal.{Refusal}
@@ -44,7 +44,7 @@ use Rattle.cert_check.specs.Walks.{between, Expecting, at_header, IsFaultName}
 use Rattle.cert_check.specs.Logs.{no_log}
 use Rattle.cert_check.specs.Checkers.{IsReady, steps_left, Expects, IsHere, IsNextLine, StopsAt, IsBegunBefore, Goes, IsNew}
 use Rattle.cert_check.specs.Outcomes.{part_name, name_in, offset_of, IsFaultAt, IsChecked}
-use Rattle.cert_check.proofs.Expected.{IsExpected, expected_at, never_none, nothing_left, ends, never_nothing}
+use Rattle.cert_check.proofs.Expected.{expected_at, never_none, nothing_left, ends, never_nothing}
 use Rattle.cert_check.proofs.Checking.{shut}
 
 -- ---- lines of the definition

@@ -1,5 +1,5 @@
 -- What the line of a log does to the walk, in the definition's terms.
-use Rattle.std.proofs.Common.{◌≡◌, ◌∙◌, inl, inr, ℕ, suc, ◌+◌, ◌<◌, true, false, Vec, Global, List, [], ◌∷◌, ◌++◌, length, Option, Some, None, Result, Ok, Err, refl, sym, ap, subst}
+use Rattle.std.proofs.Common.{◌≡◌, ◌∙◌, ℕ, suc, ◌+◌, true, false, Vec, Global, List, [], ◌∷◌, ◌++◌, length, Option, Some, None, Result, Ok, Err, refl, sym, ap, subst}
 use Rattle.std.specs.Prelude.{slice_get}
 use Rattle.memory_spec.specs.Runs.{Run}
 use Rattle.memory_spec.specs.Viewed.{runs_of}
@@ -19,7 +19,6 @@ use Rattle.cert_text_spec.specs.Certificates.{Expected, ALog}
 use Rattle.tv_limits.specs.declared.Quantity.TheVariants as quantity
 use Rattle.cert_check_spec.specs.declared.RuleWord.{RuleWord}
 use Rattle.cert_check_spec.specs.declared.RuleWord.TheVariants as fault
-use Rattle.cert_check_lines_spec.specs.Sites.{Part}
 use Rattle.cert_check_lines_spec.specs.Jobs as spec
 use Rattle.cert_check_lines_spec.specs.Jobs.{InLog}
 use Rattle.cert_check_lines_spec.specs.LineRules as lines
@@ -32,14 +31,12 @@ use Rattle.cert_check_jobs.specs.declared.jobs.Job.TheVariants.{Close}
 use Rattle.cert_check_frames.specs.declared.listed.Listed.{Listed}
 use Rattle.cert_check_frames.specs.Listed.{frame_at}
 use Rattle.cert_check_jobs.specs.Jobs.{AreInside}
-use Rattle.cert_check_frames.specs.Parts.{IsNamed}
 use Rattle.cert_check.specs.declared.fault.NamedFault.{NamedFault}
-use Rattle.cert_check.specs.declared.fault.NamedFault.TheVariants.{Broken, Above}
+use Rattle.cert_check.specs.declared.fault.NamedFault.TheVariants.{Broken}
 use Rattle.cert_check.specs.declared.fault.Named.TheVariants as named
 use Rattle.cert_check.specs.declared.logs.OpenLine.{OpenLine}
 use Rattle.cert_check.specs.declared.walk.Walk.{Walk}
-use Rattle.cert_check.specs.Jobs.{jobs_of}
-use Rattle.cert_check.specs.Members.{AreMembers, IsMemberOf}
+use Rattle.cert_check.specs.Members.{IsMemberOf}
 use Rattle.cert_check.specs.Walks.{IsPart, inside, walk_jobs, Expecting, in_part, IsWalk}
 use Rattle.cert_check.specs.Logs.{begin_fault, BeginsFirst, IsOpened, IsAt, no_log, in_log, OpensLog, LogComes, GoesLog}
 use Rattle.cert_check.proofs.Pushed.{jobs_top, same_jobs, inside_top}

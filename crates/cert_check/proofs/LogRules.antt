@@ -1,12 +1,9 @@
 -- The line of a log, and a step, as the definition takes them.
-use Rattle.std.proofs.Common.{◌≡◌, ◌∙◌, ℕ, zero, suc, ◌+◌, ◌<◌, ◌≤◌, Bool, true, false, List, [], ◌∷◌, ◌++◌, Some, None, Option, Ok, Err, refl, sym, ap, subst, arith}
-use Rattle.std.specs.Prelude.{◌≢◌}
-use Rattle.memory_spec.specs.Runs.{Run}
+use Rattle.std.proofs.Common.{◌≡◌, ◌∙◌, ℕ, suc, ◌<◌, ◌≤◌, Bool, true, false, List, [], ◌∷◌, ◌++◌, Some, None, Option, Err, refl, sym, ap, subst, arith}
 use Rattle.term_core_spec.specs.Term.{Term}
 use Rattle.term_core_spec.specs.Subterms.{subterm_count}
 use Rattle.term_norm_spec.specs.Normal.{normal}
 use Rattle.clause_check_spec.specs.declared.StepFaultKind.{StepFaultKind}
-use Rattle.clause_check_spec.specs.Clause.{Clause}
 use Rattle.clause_check_spec.specs.Log.{Step}
 use Rattle.clause_check_spec.specs.Step.{Follows, Refused, outcome}
 use Rattle.bit_blast_spec.specs.Goal.{cnf_of}
@@ -14,12 +11,10 @@ use Rattle.cnf_core.specs.declared.literals.TheConstants.{MAX_VARIABLE}
 use Rattle.tv_limits.specs.declared.TheConstants.{MAX_TERMS, MAX_VARIABLES}
 use Rattle.discharge_spec.specs.declared.GoalQuantity.TheVariants.{Terms, Variables}
 use Rattle.discharge_spec.specs.Closing.{IsWithin, is_empty, is_truth}
-use Rattle.discharge.specs.Closers.{OpenLog, IsBegun, Begins, before_first, is_closed, with_step}
+use Rattle.discharge.specs.Closers.{OpenLog, IsBegun, Begins, is_closed}
 use Rattle.discharge.proofs.Begun.{begun_bounded}
-use Rattle.discharge.specs.declared.error.CloseFault.{CloseFault}
 use Rattle.discharge.specs.declared.error.CloseFault.TheVariants as close
-use Rattle.attempt.specs.declared.refusal.Refusal.{Refusal}
-use Rattle.attempt.specs.declared.refusal.Refusal.TheVariants.{Fault, NoMemory}
+use Rattle.attempt.specs.declared.refusal.Refusal.TheVariants.{Fault}
 use Rattle.cert_text_spec.specs.Lines.{Log, LogStep}
 use Rattle.cert_check_spec.specs.declared.RuleWord.TheVariants as fault
 use Rattle.tv_limits.specs.declared.Quantity.TheVariants as quantity

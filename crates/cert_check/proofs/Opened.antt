@@ -1,5 +1,5 @@
 -- A part as it begins.
-use Rattle.std.proofs.Common.{◌≡◌, ◌∙◌, Box, Global, List, [], ◌∷◌, ◌++◌, length, sym, ap, subst}
+use Rattle.std.proofs.Common.{◌≡◌, ◌∙◌, Box, Global, List, [], ◌∷◌, ◌++◌, length, sym, ap, ap₂, subst}
 use Rattle.std.specs.HashMap.{get}
 use Rattle.term_core_spec.specs.Same.{same_variable}
 use Rattle.term_core_spec.specs.Term.{Term}
@@ -9,7 +9,7 @@ use Rattle.sim_rules_terms.proofs.Later.{map_later}
 use Rattle.proof_tree_spec.specs.Frames.{Frame}
 use Rattle.cert_text_spec.specs.Certificates.{TheParts, BinaryInlines}
 use Rattle.cert_check_lines_spec.specs.Jobs as spec
-use Rattle.cert_check_lines_spec.specs.Jobs.{AtEntry}
+use Rattle.cert_check_lines_spec.specs.Jobs.{Origin, AtEntry}
 use Rattle.cert_check_jobs.specs.declared.extra.Extra.{Extra}
 use Rattle.cert_check_jobs.specs.declared.jobs.Job.TheVariants.{Prove}
 use Rattle.cert_check_frames.specs.declared.listed.Listed.{Listed}
@@ -20,7 +20,7 @@ use Rattle.cert_check_jobs.specs.Jobs.{AreInside}
 use Rattle.cert_check.specs.Jobs.{job_of}
 use Rattle.cert_check.specs.Expectations.{of_binary, no_job, a_proof}
 use Rattle.cert_check.specs.Walks.{IsOpened}
-use Rattle.cert_check.proofs.Pushed.{jobs_top, no_jobs, with_none, inside_pushed, no_inside, no_below}
+use Rattle.cert_check.proofs.Pushed.{jobs_top, no_jobs, with_none, nothing_starts, inside_pushed, no_inside, no_below}
 
 -- ---- a part begins
 
@@ -39,5 +39,5 @@ opened function old now first x same none is known grows known_after = record {
   jobs =
       jobs_top now.bank (frame_at function) now.jobs.items [] (Prove x) is
       ∙ ap (λ (jobs : List spec.Job). job_of now.bank (frame_at function) (Prove x) ∷ jobs) (no_jobs now.bank (frame_at function))
-      ∙ ap (λ (frame : Frame). spec.Prove AtEntry frame ∷ []) (with_none now.bank (frame_at function) x.value none);
+      ∙ ap₂ (λ (o : Origin) (frame : Frame). spec.Prove o frame ∷ []) (nothing_starts x.value none) (with_none now.bank (frame_at function) x.value none);
 }

@@ -3,6 +3,7 @@ pub mod Members
 pub mod Expectations
 pub mod Steps
 pub mod Bounds
+pub mod Cuts
 pub mod Walks
 pub mod Logs
 pub mod Checkers

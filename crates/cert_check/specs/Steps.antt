@@ -39,7 +39,9 @@ use Rattle.cert_check_jobs.specs.declared.jobs.Job.TheVariants.{Prove, Close}
 use Rattle.cert_check_frames.specs.declared.listed.Listed.{Listed}
 use Rattle.cert_check_frames.specs.Listed.{IsListed, frame_at, terms_given}
 use Rattle.cert_check_jobs.specs.Jobs.{AreInside}
-use Rattle.cert_check_jobs.specs.Extras.{Added, frame_added}
+use Rattle.cert_check_jobs.specs.declared.cuts.Cuts.{Cuts}
+use Rattle.cert_check_jobs.specs.Cuts.{Site, start_seen}
+use Rattle.cert_check_jobs.specs.Extras.{Added, frame_added, opening_at, origin_of, started}
 use Rattle.cert_check.specs.Jobs.{jobs_of}
 use Rattle.cert_check.specs.Members.{IsMemberOf}
 use Rattle.term_bank.specs.Nodes.{tree_at}
@@ -96,9 +98,9 @@ AreGoalsOf c o frame r trees (Err (Fault (Above quantity.Visits))) = (count : �
 AreGoalsOf c o frame r trees (Err (Fault (Above other))) = ⊥
 AreGoalsOf c o frame r trees (Err NoMemory) = Unit {0}
 
--- where the frame at the entry has all that more
+-- where the frame has all that more
 abbrev pub AreGoals : spec.Listed → List Term → Added → Rule → Result (Vec ℕ Global) (Refusal PartFault) → Type 0
-AreGoals f trees x r result = AreGoalsOf f.convention f.opening (frame_added f.frame x) r trees result
+AreGoals f trees x r result = AreGoalsOf f.convention (opening_at f x.start) (frame_added f.frame x) r trees result
 
 abbrev pub goal_fault_of : Refusal RuleFault → Refusal PartFault
 goal_fault_of (Fault (obligation.Sort index)) = Fault (Broken fault.Sort)
@@ -106,16 +108,21 @@ goal_fault_of (Fault (obligation.Cyclic side node)) = Fault (Broken fault.Cyclic
 goal_fault_of (Fault (obligation.Large side count)) = Fault (Above quantity.Visits)
 goal_fault_of NoMemory = NoMemory
 
--- the id of the test that the symbols spell, or there is none
-abbrev pub IsTestAt : spec.Listed → List Symbol → List Term → Result ℕ (Refusal PartFault) → Type 0
-IsTestAt f symbols trees (Ok id) = (id < length trees) × IsRead f.frame f.frame.start.path symbols (tree_at trees id)
-IsTestAt f symbols trees (Err (Fault (Broken fault.Sort))) = (test : Term) → IsRead f.frame f.frame.start.path symbols test → ⊥
-IsTestAt f symbols trees (Err (Fault (Broken other))) = ⊥
-IsTestAt f symbols trees (Err (Fault (Above q))) = ⊥
-IsTestAt f symbols trees (Err NoMemory) = Unit {0}
+-- the id of the line that the symbols spell in the source body of the path, or there is none
+abbrev pub IsTestAt : spec.Listed → (path : List ℕ) → List Symbol → List Term → Result ℕ (Refusal PartFault) → Type 0
+IsTestAt f path symbols trees (Ok id) = (id < length trees) × IsRead f.frame path symbols (tree_at trees id)
+IsTestAt f path symbols trees (Err (Fault (Broken fault.Sort))) = (test : Term) → IsRead f.frame path symbols test → ⊥
+IsTestAt f path symbols trees (Err (Fault (Broken other))) = ⊥
+IsTestAt f path symbols trees (Err (Fault (Above q))) = ⊥
+IsTestAt f path symbols trees (Err NoMemory) = Unit {0}
 
-abbrev pub IsTested : Listed → List Symbol → List Term → Result ℕ (Refusal PartFault) → Type 0
-IsTested code symbols trees result = (f : spec.Listed) → IsListed code f → IsTestAt f symbols trees result
+abbrev pub IsTested : Listed → (path : List ℕ) → List Symbol → List Term → Result ℕ (Refusal PartFault) → Type 0
+IsTested code path symbols trees result = (f : spec.Listed) → IsListed code f → IsTestAt f path symbols trees result
+
+-- in the source body where a frame with these cuts starts
+abbrev pub IsTestIn : Listed → Cuts → List Symbol → List Term → Result ℕ (Refusal PartFault) → Type 0
+IsTestIn code cuts symbols trees result =
+    (f : spec.Listed) → IsListed code f → IsTestAt f (started f.frame (start_seen cuts.start)).path symbols trees result
 
 -- ---- Restrict
 
@@ -128,36 +135,37 @@ abbrev pub bounded_on : Which → Frame → Mark → Frame
 bounded_on Binary frame bound = lines.binary_bounded frame bound
 bounded_on Source frame bound = lines.source_bounded frame bound
 
--- a proof of a frame over the same sides comes first
-pub record ProvesFirst (f : spec.Listed) (all : List jobs.Job) (frame : Frame) (rest : List jobs.Job) : Type 0 where
-  pub first : all ≡ jobs.Prove jobs.AtEntry frame ∷ rest
+-- a proof of a frame over the same sides comes first, which starts there
+pub record ProvesFirst (f : spec.Listed) (all : List jobs.Job) (start : Option Site) (frame : Frame) (rest : List jobs.Job) : Type 0 where
+  pub first : all ≡ jobs.Prove (origin_of start) frame ∷ rest
   pub binary : frame.binary ≡ f.frame.binary
   pub source : frame.source ≡ f.frame.source
 
 -- the arrival at a node is excluded: its obligation and then the frame with the bound are left
-pub record IsBounded (f : spec.Listed) (side : Which) (bound : Mark) (before after : List jobs.Job) (frame : Frame) (rest : List jobs.Job) : Type 0 where
-  pub proves : ProvesFirst f before frame rest
+pub record IsBounded (f : spec.Listed) (side : Which) (bound : Mark) (before after : List jobs.Job) (start : Option Site) (frame : Frame) (rest : List jobs.Job) : Type 0 where
+  pub proves : ProvesFirst f before start frame rest
   pub counted : 1 ≤ bound.count
   pub terms : List Term
-  pub left : IsLeft f.convention f.opening frame (rule_on side bound) terms
-  pub now : after ≡ map jobs.Close terms ++ jobs.Prove jobs.AtEntry (bounded_on side frame bound) ∷ rest
+  pub left : IsLeft f.convention (opening_at f start) frame (rule_on side bound) terms
+  pub now : after ≡ map jobs.Close terms ++ jobs.Prove (origin_of start) (bounded_on side frame bound) ∷ rest
 
 -- it is, or this is why not
-abbrev pub Bounds : spec.Listed → Which → Mark → (before after : List jobs.Job) → (frame : Frame) → (rest : List jobs.Job) → Result (Unit {0}) (Refusal PartFault) → Type 0
-Bounds f side bound before after frame rest (Ok done) = IsBounded f side bound before after frame rest
-Bounds f side bound before after frame rest (Err (Fault (Broken fault.Count))) = ProvesFirst f before frame rest × (bound.count ≡ 0)
-Bounds f side bound before after frame rest (Err (Fault (Broken fault.Cyclic))) =
-    ProvesFirst f before frame rest × (1 ≤ bound.count) × ((node : ℕ) × IsCyclicRule f.opening frame (rule_on side bound) node)
-Bounds f side bound before after frame rest (Err (Fault (Broken other))) = ⊥
-Bounds f side bound before after frame rest (Err (Fault (Above quantity.Visits))) =
-    ProvesFirst f before frame rest × (1 ≤ bound.count) × ((count : ℕ) × IsLargeRule f.opening frame MAX_VISITS (rule_on side bound) count)
-Bounds f side bound before after frame rest (Err (Fault (Above other))) = ⊥
-Bounds f side bound before after frame rest (Err NoMemory) = Unit {0}
+abbrev pub Bounds : spec.Listed → Which → Mark → (before after : List jobs.Job) → (start : Option Site) → (frame : Frame) → (rest : List jobs.Job) → Result (Unit {0}) (Refusal PartFault) → Type 0
+Bounds f side bound before after start frame rest (Ok done) = IsBounded f side bound before after start frame rest
+Bounds f side bound before after start frame rest (Err (Fault (Broken fault.Count))) = ProvesFirst f before start frame rest × (bound.count ≡ 0)
+Bounds f side bound before after start frame rest (Err (Fault (Broken fault.Cyclic))) =
+    ProvesFirst f before start frame rest × (1 ≤ bound.count) × ((node : ℕ) × IsCyclicRule (opening_at f start) frame (rule_on side bound) node)
+Bounds f side bound before after start frame rest (Err (Fault (Broken other))) = ⊥
+Bounds f side bound before after start frame rest (Err (Fault (Above quantity.Visits))) =
+    ProvesFirst f before start frame rest × (1 ≤ bound.count) × ((count : ℕ) × IsLargeRule (opening_at f start) frame MAX_VISITS (rule_on side bound) count)
+Bounds f side bound before after start frame rest (Err (Fault (Above other))) = ⊥
+Bounds f side bound before after start frame rest (Err NoMemory) = Unit {0}
 
 abbrev pub IsRestricted : Listed → (old new : List Term) → (before after : List Job) → Which → Mark → Result (Unit {0}) (Refusal PartFault) → Type 0
 IsRestricted code old new before after side bound result =
     (f : spec.Listed) → IsListed code f
-    → (frame : Frame) × (rest : List jobs.Job) × Bounds f side bound (jobs_of old (frame_at code) before) (jobs_of new (frame_at code) after) frame rest result
+    → (start : Option Site) × (frame : Frame) × (rest : List jobs.Job)
+    × Bounds f side bound (jobs_of old (frame_at code) before) (jobs_of new (frame_at code) after) start frame rest result
 
 -- one log and one proof in place of a proof
 pub record HasOneLog (before after : List Job) : Type 0 where

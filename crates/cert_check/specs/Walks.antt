@@ -1,5 +1,5 @@
 -- What a line does to a walk along the lines of a certificate.
-use Rattle.std.specs.Prelude.{◌≡◌, ◌⊎◌, ℕ, ◌+◌, ◌<◌, Bool, true, false, List, [], ◌∷◌, ◌++◌, length, map, Some, None, slice_get, Result, Ok, Err, OnOk}
+use Rattle.std.specs.Prelude.{◌≡◌, ◌⊎◌, ℕ, ◌+◌, ◌<◌, Bool, true, false, List, [], ◌∷◌, ◌++◌, length, Some, None, slice_get, Result, Ok, Err, OnOk}
 use Rattle.std.specs.HashMap.{get}
 use Rattle.term_core_spec.specs.Same.{same_variable}
 use Rattle.cert_text_parse.specs.declared.lines.Line.{Line as CodeLine}

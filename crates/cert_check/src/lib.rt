@@ -10,6 +10,7 @@
 
 mod certificate;
 mod checker;
+mod cuts;
 mod fault;
 mod logs;
 mod rules;

@@ -5,8 +5,8 @@ ghost use Rattle.proof_tree.specs.Proofs.{binary_point_of, source_point_of};
 ghost use Rattle.term_bank.specs.Nodes.{Extends};
 ghost use Rattle.cert_text_spec.specs.Lines as spec;
 ghost use Rattle.cert_check.specs.Expectations.{IsNext, AreAfter};
-ghost use Rattle.cert_check.specs.Steps.{HasOneLog, IsKept, IsRestricted, IsStep, IsTested};
-ghost use Rattle.cert_check.specs.Steps.{goal_fault_of, rule_on};
+ghost use Rattle.cert_check.specs.Steps.{HasOneLog, IsKept, IsRestricted, IsStep, IsTestIn};
+ghost use Rattle.cert_check.specs.Steps.{IsTested, goal_fault_of, rule_on};
 ghost use Rattle.cert_check_jobs.specs.Jobs.{IsProofOnTop};
 ghost use Rattle.sim_rules.specs.Rules.{rule_of};
 ghost use Rattle.cert_check.specs.Bounds.{HasBound};
@@ -15,8 +15,8 @@ use crate::fault::PartFault;
 use attempt::{Refusal, attempt};
 use cert_check_frames::Listed;
 use cert_check_jobs::{
-    Extra, Job, binary_node, push_branches, push_goals, push_proof, rule_goals, source_node,
-    take_proof,
+    Cuts, Extra, Job, binary_node, push_branches, push_goals, push_proof, rule_goals, source_node,
+    start_path, take_proof,
 };
 use cert_check_spec::RuleWord;
 use cert_check_terms::{TermFault, read_line};
@@ -80,24 +80,40 @@ pub(crate) fn leaf(
 
 // ---- Case
 
-// The test of a Case.
-fn test(
+/// The line that symbols spell in the source body of a path.
+pub(crate) fn line_read(
     alloc: Global,
     function: &Listed<'_>,
+    path: &[u32],
     bank: &mut Bank,
     symbols: &[Symbol],
 ) -> Result<TermId, Refusal<PartFault>>
-    ensures test { IsTested function.now symbols.now bank.new result }
-    ensures within { IfOk result (λ test. test < length bank.new) }
+    ensures line { IsTested function.now path.now symbols.now bank.new result }
+    ensures within { IfOk result (λ line. line < length bank.new) }
     ensures extends { Extends bank.old bank.new }
 {
-    match read_line(alloc, function.setting, function.path, symbols, bank) {
-        Ok(test) => Ok(test),
+    match read_line(alloc, function.setting, path, symbols, bank) {
+        Ok(line) => Ok(line),
         Err(Refusal::Fault(TermFault::Sort)) => Err(Refusal::Fault(PartFault::Broken(
             RuleWord::Sort,
         ))),
         Err(Refusal::NoMemory) => Err(Refusal::NoMemory),
     }
+}
+
+// The test of a Case of a frame.
+fn test<'a>(
+    alloc: Global,
+    function: &'a Listed<'a>,
+    cuts: &'a Cuts,
+    bank: &mut Bank,
+    symbols: &[Symbol],
+) -> Result<TermId, Refusal<PartFault>>
+    ensures test { IsTestIn function.now cuts.now symbols.now bank.new result }
+    ensures within { IfOk result (λ test. test < length bank.new) }
+    ensures extends { Extends bank.old bank.new }
+{
+    line_read(alloc, function, start_path(function, cuts), bank, symbols)
 }
 
 /// `case TERM`: a proof where the term holds, and one where it doesn't.
@@ -118,8 +134,8 @@ pub(crate) fn case(
         jobs.new.items) }
 {
     let _ = opening;
-    let test = attempt!(test(alloc, function, bank, symbols));
     let extra = take_proof(jobs);
+    let test = attempt!(test(alloc, &*function, &extra.cuts, bank, symbols));
     attempt!(push_branches(alloc, jobs, &extra, test), Refusal::NoMemory);
     Ok(())
 }

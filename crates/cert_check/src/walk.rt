@@ -11,6 +11,7 @@ ghost use Rattle.cert_check.specs.Walks.{Begins, Ends, Goes, GoesInside};
 ghost use Rattle.cert_check.specs.Walks.{IsInside, IsOpened, IsPlain, IsWalk};
 ghost use Rattle.cert_check.specs.Walks.{IsNextAt, named_fault};
 
+use crate::cuts::{relation, split};
 use crate::fault::{Named, NamedFault, PartFault};
 use crate::rules::{case, leaf, restrict_binary, restrict_source};
 use attempt::{Refusal, attempt};
@@ -111,7 +112,7 @@ fn is_known(line: &Line) -> bool
 {
     !matches!(
         line,
-        Line::InlineBinary(_) | Line::InlineSource(_) | Line::Split(_) | Line::Call(_)
+        Line::InlineBinary(_) | Line::InlineSource(_) | Line::Call(_)
     )
 }
 
@@ -139,6 +140,8 @@ fn part_line(
         Line::Case(test) => case(alloc, function, opening, bank, jobs, test.as_slice()),
         Line::RestrictBinary(line) => restrict_binary(alloc, function, opening, bank, jobs, line),
         Line::RestrictSource(line) => restrict_source(alloc, function, opening, bank, jobs, line),
+        Line::Split(line) => split(alloc, function, opening, bank, jobs, line),
+        Line::Relation(term) => { relation(alloc, function, opening, bank, jobs, term.as_slice()) }
         _ => unreachable!(),
     }
 }

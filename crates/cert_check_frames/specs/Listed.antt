@@ -13,6 +13,7 @@ use Rattle.proof_tree_spec.specs.declared.Place.{Place}
 use Rattle.proof_tree_spec.specs.Frames.{Frame, Start}
 use Rattle.proof_tree.specs.Frames.{side_of, terms_of}
 use Rattle.proof_tree.specs.Scope.{setting_of}
+use Rattle.sim_rules_spec.specs.Calling.{zone_from, at_entry}
 use Rattle.sim_rules_terms.specs.Conventions.{IsConventionOf}
 use Rattle.cert_check_spec.specs.Verdict as spec
 use Rattle.cert_check_terms.specs.Variables.{AreApart}
@@ -79,6 +80,8 @@ pub record IsListed (code : Listed) (f : spec.Listed) : Type 0 where
   pub named : f.name ≡ code.name.now
   pub stack_is : f.stack ≡ code.stack
   pub convention_is : IsConventionOf code.convention.now f.convention
+  pub zone_from_is : f.convention.zone_from ≡ zone_from code.stack
+  pub zone_to_is : f.convention.zone_to ≡ at_entry 2
   pub binary_is : (v : Variable) → f.opening.binary v ≡ terms_given code.binary_terms.now v
   pub source_is : (v : Variable) → f.opening.source v ≡ terms_given code.source_terms.now v
   pub frame_is : f.frame ≡ frame_at code

@@ -107,8 +107,8 @@ fn add_branches<'a>(
     Ok(())
 }
 
-// The premises of a frame.
-fn premises<'a>(
+/// The premises of a frame: these lines, and tests, each as it holds, of which the trees are given.
+pub fn premises<'a>(
     alloc: Global,
     lines: &'a [Box<Term>],
     branches: &[Branch],

@@ -23,10 +23,10 @@ mod scope;
 mod trees;
 
 pub use entries::{Entry, File, Numbers};
-pub use entry::{frame, known};
+pub use entry::{frame, known, premises};
 pub use goals::leaf_goals;
 pub use jobs::Branch;
 pub use listed::{Fact, Listed, PlaceNode};
 pub use listing::{Sites, list};
 pub use parts::{free, has_part, missing};
-pub use trees::tests;
+pub use trees::{tests, tree};

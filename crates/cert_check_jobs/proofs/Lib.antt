@@ -1,3 +1,4 @@
 mod Made
+mod Framed
 mod Answered
 mod Sought

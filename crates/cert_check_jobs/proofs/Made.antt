@@ -1,37 +1,14 @@
--- Frames with more, and jobs, as they are made.
-use Rattle.std.proofs.Common.{◌≡◌, ◌∙◌, ℕ, ◌+◌, true, false, Box, Global, List, [], ◌∷◌, ◌++◌, length, map, refl, sym, ap, ap₂, arith, length-append, append_assoc, append-nil}
-use Rattle.std.proofs.lemmas.List.{same_from_push}
-use Rattle.term_core_spec.specs.Term.{Term}
-use Rattle.graph_core_spec.specs.declared.Mark.{Mark}
-use Rattle.proof_tree_spec.specs.Frames.{Frame, Start}
-use Rattle.proof_tree.specs.Frames.{mark_of}
+-- Jobs, as they are made.
+use Rattle.std.proofs.Common.{◌≡◌, ◌∙◌, ℕ, ◌+◌, ◌<◌, ◌≤◌, suc, true, false, Box, Vec, Global, List, [], ◌∷◌, ◌++◌, length, map, take, get_or, refl, sym, ap, ap₂, subst, arith, length-append, append_assoc, append-nil}
+use Rattle.std.proofs.lemmas.List.{map_more, same_from_push, take_all}
 use Rattle.cert_check_frames.specs.declared.jobs.Branch.{Branch}
-use Rattle.cert_check_frames.specs.declared.listed.Listed.{Listed}
-use Rattle.cert_check_frames.specs.Listed.{frame_at}
-use Rattle.cert_check_frames.specs.Jobs.{frame_with, premises_with}
+use Rattle.cert_check_jobs.specs.declared.drafts.Draft.{Draft}
 use Rattle.cert_check_jobs.specs.declared.extra.Extra.{Extra}
 use Rattle.cert_check_jobs.specs.declared.jobs.Job.{Job}
-use Rattle.cert_check_jobs.specs.declared.jobs.Job.TheVariants.{Prove, Close}
-use Rattle.cert_check_jobs.specs.Extras.{HasPremise, added_with, frame_added, start_bounded}
+use Rattle.cert_check_jobs.specs.declared.jobs.Job.TheVariants.{Prove, Relate, Close}
+use Rattle.cert_check_jobs.specs.Drafts.{AreFinished, AreReading, IsAfter, IsBefore, holding, line_holds}
+use Rattle.cert_check_jobs.specs.Extras.{HasPremise}
 use Rattle.cert_check_jobs.specs.Jobs.{HasBranches, logs_last}
-
--- ---- frames
-
-same_marks : (marks : List Mark) → map mark_of marks ≡ marks
-same_marks [] = refl
-same_marks (m ∷ marks) = ap (λ (l : List Mark). m ∷ l) (same_marks marks)
-
-abbrev bounded_by : Frame → (binary source : List Mark) → Frame
-bounded_by g binary source = record g { start = start_bounded g.start binary source }
-
-pub frame_bounded : (code : Listed) (x : Extra) (tests : List Term) (lent : List Branch) (made : Frame) (binary source : List Mark)
-    → made ≡ frame_with (frame_at code) (premises_with lent tests) → lent ≡ x.premises.items → binary ≡ x.binary_bounds.items → source ≡ x.source_bounds.items
-    → (start : Start) → start ≡ start_bounded made.start (map mark_of binary) (map mark_of source) → (record made { start = start }) ≡ frame_added (frame_at code) (added_with x tests)
-frame_bounded code x tests lent made binary source is lent_is binary_is source_is start starts =
-    ap (λ (s : Start). record made { start = s }) starts
-    ∙ ap (λ (g : Frame). bounded_by g (map mark_of binary) (map mark_of source)) is
-    ∙ ap (λ (l : List Branch). bounded_by (frame_with (frame_at code) (premises_with l tests)) (map mark_of binary) (map mark_of source)) lent_is
-    ∙ ap₂ (λ (l m : List Mark). bounded_by (frame_with (frame_at code) (premises_with x.premises.items tests)) l m) (same_marks binary ∙ binary_is) (same_marks source ∙ source_is)
 
 -- ---- logs
 
@@ -61,3 +38,38 @@ has_branches old one two x test fails holds fails_are holds_are first second = r
 
 pub never_empty : (jobs below : List Job) (job : Job) → length jobs ≡ 0 → jobs ≡ below ++ job ∷ [] → ⊥
 never_empty jobs below job none is = absurd (omega (arith, none, ap length is, length-append below (job ∷ [])))
+
+-- ---- cuts
+
+-- lines that hold are added
+pub holding_added : (first old new : List Branch) (lines : List ℕ) (i d : ℕ) (b : Branch) → i < length lines → old ≡ first ++ holding (take i lines) → new ≡ old ++ b ∷ []
+    → b ≡ line_holds (get_or lines i d) → new ≡ first ++ holding (take (i + 1) lines)
+holding_added first old new lines i d b within before now is =
+    now ∙ ap₂ (λ (l : List Branch) (c : Branch). l ++ c ∷ []) before is
+    ∙ append_assoc first (holding (take i lines)) (line_holds (get_or lines i d) ∷ [])
+    ∙ ap (λ (l : List Branch). first ++ l) (sym (map_more line_holds lines i d within))
+
+pub none_holding : (first : List Branch) (lines : List ℕ) → lines ≡ [] → first ≡ first ++ holding lines
+none_holding first lines none = sym (ap (λ (l : List ℕ). first ++ holding l) none ∙ append-nil first)
+
+pub all_holding : (first all : List Branch) (lines : List ℕ) (i : ℕ) → length lines ≤ i → all ≡ first ++ holding (take i lines) → all ≡ first ++ holding lines
+all_holding first all lines i past are = are ∙ ap (λ (l : List ℕ). first ++ holding l) (take_all i lines past)
+
+pub is_finished : (d : Draft) (lines : List ℕ) (old one two : List Job) (later first : Box Extra Global) → IsAfter d lines later.value → IsBefore d lines first.value
+    → one ≡ old ++ Prove later ∷ [] → two ≡ one ++ Prove first ∷ [] → AreFinished d lines old two
+is_finished d lines old one two later first later_is first_is before now = record {
+  later = later;
+  first = first;
+  later_is = later_is;
+  first_is = first_is;
+  now = now ∙ ap (λ (l : List Job). l ++ Prove first ∷ []) before;
+}
+
+pub reading_done : (d : Box Draft Global) (lines : Vec ℕ Global) (left : ℕ) (old new : List Job) → left ≡ 0 → AreFinished d.value lines.items old new → AreReading d lines left old new
+reading_done d lines left old new none has = subst (λ (n : ℕ). AreReading d lines n old new) (sym none) has
+
+pub reading_next : (d : Box Draft Global) (lines : Vec ℕ Global) (left less : ℕ) (old new : List Job) → left ≡ less + 1
+    → new ≡ old ++ Relate (record { draft = d; lines = lines; left = less }) ∷ [] → AreReading d lines left old new
+reading_next d lines left less old new more now =
+    let is : left ≡ suc less = omega (arith, more) in
+    subst (λ (n : ℕ). AreReading d lines n old new) (sym is) now

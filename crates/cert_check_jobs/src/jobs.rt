@@ -1,8 +1,10 @@
 //! What is expected inside a part: proofs of frames, and logs of obligations.
 
 ghost use Rattle.std.specs.Prelude.{◌≡◌, ◌∷◌, [], ◌++◌, OnOk};
-ghost use Rattle.cert_check_jobs.specs.Jobs.{logs_last, HasBranches, IsGoalOnTop, IsProofOnTop};
+ghost use Rattle.cert_check_jobs.specs.Jobs.{logs_last, HasBranches, IsDraftOnTop, IsGoalOnTop};
+ghost use Rattle.cert_check_jobs.specs.Jobs.{IsProofOnTop};
 
+use crate::drafts::Reading;
 use crate::extra::Extra;
 use attempt::attempt;
 use cert_check_frames::Branch;
@@ -14,6 +16,8 @@ use term_bank::TermId;
 pub enum Job {
     /// A proof of the frame at the entry with all that.
     Prove(Box<Extra>),
+    /// A line of the relation of a cut.
+    Relate(Reading),
     /// The log of an obligation.
     Close(TermId),
 }
@@ -33,6 +37,20 @@ pub fn take_proof(jobs: &mut Vec<Job>) -> Box<Extra>
 {
     match jobs.pop() {
         Some(Job::Prove(extra)) => extra,
+        Some(Job::Relate(_)) => unreachable!(),
+        Some(Job::Close(_)) => unreachable!(),
+        None => unreachable!(),
+    }
+}
+
+/// The cut of which a line comes first, which is taken.
+pub fn take_draft(jobs: &mut Vec<Job>) -> Reading
+    requires { IsDraftOnTop jobs.old.items }
+    ensures { jobs.old.items ≡ jobs.new.items ++ Job.Relate result ∷ [] }
+{
+    match jobs.pop() {
+        Some(Job::Relate(reading)) => reading,
+        Some(Job::Prove(_)) => unreachable!(),
         Some(Job::Close(_)) => unreachable!(),
         None => unreachable!(),
     }
@@ -46,6 +64,7 @@ pub fn take_goal(jobs: &mut Vec<Job>) -> TermId
     match jobs.pop() {
         Some(Job::Close(goal)) => goal,
         Some(Job::Prove(_)) => unreachable!(),
+        Some(Job::Relate(_)) => unreachable!(),
         None => unreachable!(),
     }
 }

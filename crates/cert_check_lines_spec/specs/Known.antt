@@ -2,7 +2,7 @@
 -- first fault.
 use Rattle.std.specs.Prelude.{ℕ, Bool, true, false, List}
 use Rattle.tv_limits.specs.declared.Quantity.{Quantity}
-use Rattle.cert_text_spec.specs.Lines.{Line, InlineBinary, InlineSource, Split, Call}
+use Rattle.cert_text_spec.specs.Lines.{Line, InlineBinary, InlineSource, Call}
 use Rattle.cert_check_spec.specs.declared.RuleWord.{RuleWord}
 use Rattle.cert_check_spec.specs.Verdict.{Listed}
 use Rattle.cert_check_lines_spec.specs.LineRules.{Breaks, Above}
@@ -14,7 +14,6 @@ use Rattle.cert_check_lines_spec.specs.Walk as walk
 abbrev pub is_known : Line → Bool
 is_known (InlineBinary point) = false
 is_known (InlineSource point) = false
-is_known (Split points enter step relations) = false
 is_known (Call points counts before after) = false
 is_known one = true
 

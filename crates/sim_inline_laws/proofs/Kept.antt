@@ -1,6 +1,6 @@
 -- What is true of the nodes of all functions that can be inlined is true of those of a graph with calls inlined, where
 -- inlining one call keeps it.
-use Rattle.std.proofs.Common.{◌≡◌, ◌∙◌, ℕ, ◌+◌, sym, subst, List, [], ◌∷◌, map, length, All, Some}
+use Rattle.std.proofs.Common.{◌≡◌, ◌∙◌, ℕ, ◌+◌, sym, subst, List, [], map, length, All, Some}
 use Rattle.std.specs.Prelude.{slice_set}
 use Rattle.std.proofs.lemmas.List.Elements.{All-nil, All-cons, All-append, All-set, All-map, All-weaker}
 use Rattle.std.proofs.lemmas.Option.{same_Some}

@@ -1,5 +1,5 @@
 -- A frame may be simulated with calls of the source inlined.
-use Rattle.std.proofs.Common.{◌≡◌, ◌≢◌, ◌∙◌, ◌⊎◌, inl, inr, ℕ, true, false, ◌||◌, refl, sym, ap, subst, arith, List, [], ◌∷◌, map, All}
+use Rattle.std.proofs.Common.{◌≡◌, ◌≢◌, ◌∙◌, ◌⊎◌, inl, inr, ℕ, true, false, ◌||◌, refl, sym, ap, subst, arith, List, [], map, All}
 use Rattle.std.proofs.lemmas.Bool.{and_parts, and_from}
 use Rattle.std.proofs.lemmas.List.Elements.{All-nil, All-cons}
 use Rattle.term_core_spec.specs.declared.Variable.{Variable}

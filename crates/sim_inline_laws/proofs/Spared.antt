@@ -1,15 +1,14 @@
 -- What callers and callees share, and no node of any function binds, no node of a graph with calls inlined binds.
-use Rattle.std.proofs.Common.{◌≡◌, ◌≢◌, ◌∙◌, ℕ, true, refl, sym, ap, List, [], ◌++◌, map, filter, All, Some, inl, inr}
-use Rattle.std.proofs.lemmas.List.Elements.{All-nil, All-append, All-filter, All-map, All-weaker}
+use Rattle.std.proofs.Common.{◌≡◌, ◌≢◌, ◌∙◌, ℕ, true, sym, ap, List, map, filter, All, Some, inl, inr}
+use Rattle.std.proofs.lemmas.List.Elements.{All-append, All-filter, All-map, All-weaker}
 use Rattle.term_core_spec.specs.declared.Variable.{Variable}
 use Rattle.graph_core_spec.specs.declared.Next.{Next}
 use Rattle.graph_core_spec.specs.Graph.{Binding, Node, Basic, Cond, Call, Graph, Graphs}
 use Rattle.graph_core_spec.specs.Run.{is_shared}
-use Rattle.graph_core_spec.specs.Variables.{all_bindings}
 use Rattle.graph_inline_spec.specs.Naming.{inlined_variable, inlined_binding, with_inlined_term, with_inlined_variable}
 use Rattle.graph_inline_spec.specs.Inlined.{start_binding, start_bindings, inlined_node}
 use Rattle.graph_inline_spec.specs.Inlining.{IsOwn}
-use Rattle.graph_inline_spec.proofs.Naming.{either, clash, name_shared, name_own, name_is_shared}
+use Rattle.graph_inline_spec.proofs.Naming.{either, clash, name_shared, name_is_shared}
 use Rattle.sim_rules_spec.proofs.Truths.{all_left, all_right}
 use Rattle.sim_rules_spec.proofs.Start.{all_at}
 use Rattle.sim_inline_laws.specs.Unfolding.{Inlinable, Functions, AreInlinable, Unfolds}

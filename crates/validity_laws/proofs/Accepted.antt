@@ -27,13 +27,13 @@ use Rattle.validity_laws.proofs.PlainLines.{own_words}
 use Rattle.cert_check_spec.specs.Verdict.{Listed}
 use Rattle.cert_check_lines_spec.specs.Jobs.{AtEntry}
 use Rattle.cert_check_lines_spec.specs.Shown.{IsShown}
-use Rattle.cert_check_lines_spec.specs.Parts.{Functions, Member, Unfolded, unfolded, part_of, LacksPart, State, Between, HasParts, at_start, Accepts, first, next, last, AreAccepted, none, some, AreShown, no_part, one_more, Unfolds}
+use Rattle.cert_check_lines_spec.specs.Parts.{Functions, Member, Unfolded, unfolded, part_of, LacksPart, State, Between, HasParts, first, next, last, AreAccepted, none, some, AreShown, no_part, one_more, Unfolds}
 use Rattle.cert_check_lines_spec.specs.Members.{alike_in}
 use Rattle.cert_check_lines_spec.proofs.Accepting.{accepted_is_shown, plain_is_shown}
 use Rattle.validity_laws.specs.Derivation.{Function, pair_for, AreSides, IsFunction}
 use Rattle.validity_laws.specs.CheckStatements.{graph_among, named_graphs, listed_of, IsFile, AreFunctions, AreAtNames}
 use Rattle.validity_laws.specs.Shown as shown
-use Rattle.validity_laws.specs.Shown.{called, part_for, AreNamed, HasShownPart, IsGiven, HaveShownParts}
+use Rattle.validity_laws.specs.Shown.{called, part_for, AreNamed, HasShownPart, HaveShownParts}
 use Rattle.validity_laws.specs.Accepted.{member_for, AcceptedIsValid, AreKnown, WholeIsValid}
 use Rattle.validity_laws.proofs.Functions.{is_pair}
 use Rattle.validity_laws.proofs.Unfolding.{part_is, part_inlined}
@@ -170,7 +170,7 @@ function_from q firsts (g ∷ list) f (suc k, within, at) =
     (rest.0, (suc rest.1.0, omega (arith, rest.1.1), rest.1.2), rest.2)
 
 -- what is made of a body, by its number
-of_body : {X : Type 0} (make : Body → X) (bodies : List Body) (name : List ℕ) (body : Body) → body_named bodies name ≡ Some body
+pub of_body : {X : Type 0} (make : Body → X) (bodies : List Body) (name : List ℕ) (body : Body) → body_named bodies name ≡ Some body
     → slice_get (map make bodies) (body_number name bodies) ≡ Some (make body)
 unfolding body_number
 of_body make [] name body e = absurd (cc)

@@ -1,6 +1,6 @@
 -- The obligations of calls are well sorted. In that of the callee's entry the source has one memory, in that of the return
 -- two.
-use Rattle.std.proofs.Common.{◌≡◌, ◌∙◌, ℕ, suc, ◌+◌, ◌^◌, ◌<◌, ◌==◌, Bool, true, false, if◌then◌else◌, List, [], ◌∷◌, ◌++◌, map, Option, Some, None, refl, sym, ap, subst, inl, inr, arith}
+use Rattle.std.proofs.Common.{◌≡◌, ℕ, suc, ◌+◌, ◌^◌, ◌<◌, ◌==◌, true, false, if◌then◌else◌, List, [], ◌∷◌, ◌++◌, map, Option, Some, None, refl, sym, subst, inl, inr, arith}
 use Rattle.std.specs.Prelude.{All}
 use Rattle.std.proofs.lemmas.Bool.{eqb-true, lt-ltb}
 use Rattle.std.proofs.lemmas.List.Elements.{All-nil, All-cons, All-append, All-head, All-tail}
@@ -14,28 +14,26 @@ use Rattle.term_core_spec.specs.declared.Variable.{Variable}
 use Rattle.term_core_spec.specs.Same.{same_variable}
 use Rattle.term_core_spec.proofs.Same.{variable-same}
 use Rattle.term_core_spec.specs.Sort.{sort_of, sort_of_atom, sort_of_binary}
-use Rattle.term_core_spec.specs.Term.{Term, Occurs, truth, constant, open_term, equal, less, not_term, subtract, bit_and, over}
+use Rattle.term_core_spec.specs.Term.{Term, Occurs, constant, open_term, equal, less, not_term, subtract, bit_and}
 use Rattle.term_core_spec.specs.Substitution.{State, substituted}
 use Rattle.graph_core_spec.specs.Graph.{Binding}
 use Rattle.term_core_spec.specs.Sort.{is_memory}
 use Rattle.graph_core_spec.specs.Run.{is_shared, is_register}
-use Rattle.path_cond_spec.specs.Conditions.{assigned}
 use Rattle.c_types_spec.specs.declared.Scalar.{Scalar}
 use Rattle.c_graph_spec.specs.State.{local}
 use Rattle.c_graph_laws.proofs.Extents.{IsPlain as IsPlainType, ResultExtent}
-use Rattle.decompile_spec.specs.State as code
-use Rattle.proof_tree_spec.specs.Frames.{Start, Goal, Frame}
-use Rattle.sim_rules_spec.specs.Points.{Convention, binary_memory, source_memory, zone_memory, is_binary, is_source, of_sides, same_byte, with_memory}
+use Rattle.proof_tree_spec.specs.Frames.{Frame}
+use Rattle.sim_rules_spec.specs.Points.{binary_memory, source_memory, zone_memory, is_binary, is_source, same_byte, with_memory}
 use Rattle.sim_rules_spec.specs.Calling.{word, register, at_entry}
-use Rattle.sim_rules_spec.specs.Rules.{Opening, terms_at_start, terms_at, at_cut, under}
+use Rattle.sim_rules_spec.specs.Rules.{Opening, terms_at_start, terms_at, at_cut}
 use Rattle.sim_rules_spec.specs.Calls as calls
-use Rattle.sim_rules_spec.specs.Calls.{CallPair, Callee, unset_or, entered_terms, is_entry, callee_lines, binary_begins, source_begins, begins_well, left, machine_register, is_kept_register, result_or, left_register, left_memory, binary_returns, source_returns, returns_well, call_premises, entry_term, return_term, IsPlainLine}
-use Rattle.agreement_laws.specs.EntryFrame.{Pair, result_term, widened, entry_premises}
+use Rattle.sim_rules_spec.specs.Calls.{CallPair, unset_or, entered_terms, is_entry, callee_lines, binary_begins, source_begins, begins_well, left, machine_register, is_kept_register, result_or, left_register, left_memory, binary_returns, source_returns, returns_well, call_premises, entry_term, return_term, IsPlainLine}
+use Rattle.agreement_laws.specs.EntryFrame.{Pair, result_term, widened}
 use Rattle.agreement_laws.specs.Callers.{argument_lines, callee_of}
 use Rattle.validity_laws.specs.Derivation.{no_zone, stated}
 use Rattle.validity_laws.proofs.Good.{IsPlain, IsGood, IsGoodState, IsTest, AreTests, open_good, truth_good, not_good, equal_good, less_good, either_good, all_good}
 use Rattle.validity_laws.proofs.Conditions.{IsGoodBinding, assigned_good}
-use Rattle.validity_laws.proofs.Entry.{register_good, at_entry_good, source_good, zone_good, word_good, from_good, widened_good, local_good, result_open, byte_good, cut_binary_good, cut_source_good, start_good, point_good}
+use Rattle.validity_laws.proofs.Entry.{register_good, at_entry_good, zone_good, word_good, from_good, widened_good, local_good, result_open, byte_good, cut_binary_good, cut_source_good, start_good, point_good}
 use Rattle.validity_laws.proofs.Leaves.{lines_good, under_test}
 use Rattle.validity_laws.proofs.PlainLines.{plain_memory}
 use Rattle.validity_laws.proofs.TwoMemories.{IsSound, IsSoundTest, AreSoundTests, good_sound, subtract_sound, over_sound, choice_sound, substituted_sound, all_sound, under_sound, left_sound, assigned_sound}

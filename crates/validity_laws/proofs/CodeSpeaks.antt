@@ -1,8 +1,9 @@
 -- Graphs of code speak of registers, their values at entry, and the binary's memory; and what their calls bind.
-use Rattle.std.proofs.Common.{◌≡◌, ◌⊎◌, ◌∙◌, ℕ, zero, suc, ◌+◌, ◌-◌, ◌%◌, ◌==◌, Bool, true, false, cond, if◌then◌else◌, refl, sym, ap, subst, inl, inr, List, [], ◌∷◌, length, map, All, Some}
+use Rattle.std.proofs.Common.{◌≡◌, ◌⊎◌, ◌∙◌, ℕ, zero, suc, ◌+◌, ◌-◌, ◌%◌, ◌==◌, ◌&&◌, Bool, true, false, cond, if◌then◌else◌, refl, sym, ap, subst, inl, inr, List, [], ◌∷◌, length, map, All, Some}
 use Rattle.std.specs.Prelude.{slice_get, ⊤}
 use Rattle.std.proofs.lemmas.Option.{get_or_from_slice_get, slice_get_within}
-use Rattle.std.proofs.lemmas.List.Elements.{All-nil, All-cons, All-append, All-head, All-tail}
+use Rattle.std.proofs.lemmas.List.Elements.{All-nil, All-cons, All-append, All-head, All-tail, All-weaker}
+use Rattle.std.proofs.lemmas.Bool.{and_parts}
 use Rattle.memory_spec.specs.Runs.{Run}
 use Rattle.rv_instr.specs.declared.BranchTest.{BranchTest}
 use Rattle.rv_instr.specs.declared.BranchTest.TheVariants as branch
@@ -22,21 +23,26 @@ use Rattle.term_core_spec.specs.declared.Width.TheVariants.{W32}
 use Rattle.term_core_spec.specs.Term.{Term, equal, less, bit_and, open_term, load}
 use Rattle.term_core_spec.specs.Shapes as shapes
 use Rattle.graph_core_spec.specs.declared.Next.TheVariants as to
-use Rattle.graph_core_spec.specs.Graph.{Node, Basic, Cond, Call, Graph}
+use Rattle.graph_core_spec.specs.Graph.{Binding, Node, Basic, Cond, Call, Graph}
 use Rattle.decompile_spec.specs.State.{register, entry_register, table_index, memory}
 use Rattle.decompile_spec.specs.InstructionTerms.{number, operand, address, places, set_if, computed, taken, loaded, stored, is_multiple, load_tests, avoids, last_written, aligned_for, access_tests, returns_home, put, effects, branch_test}
 use Rattle.decompile_spec.specs.Blocks.{NodeName, Of, Following, Setting, Ending, Does, Goes, toward, onward, chain, tests_of, bounded_by, branching, next_test, table_tests, does_all, ending_of, nodes_at, leaves, entry_binding, other_registers, call_inputs, tail_inputs, call_nodes, tail_call_nodes}
 use Rattle.decompile_spec.specs.CodeGraph.{IsNodeAt, entrance, of_instruction, landing, IsCodeGraph}
 use Rattle.term_core_spec.specs.declared.Variable.{Variable}
 use Rattle.sim_rules_spec.specs.Points.{is_binary}
-use Rattle.sim_rules_spec.specs.Proper.{IsOwnTerm, IsOwnBinding, AreOwnBindings, IsOwnNode, IsOwnGraph}
+use Rattle.sim_rules_spec.specs.Proper.{IsOwnBinding, AreOwnBindings, IsOwnNode, IsOwnGraph}
+use Rattle.sim_inline_laws.proofs.OfKind.{IsKindTerm, IsKindBinding, IsKindNode}
 use Rattle.validity_laws.proofs.Speaking.{const_own, truth_own, open_own, one_own, two_own, three_own, either_own, one_test, signed_less_own, quotient_own, remainder_own, product_own, product_signed_own, product_mixed_own, past_own, load_own, load_half_own, load_word_own, store_byte_own, store_half_own, store_word_own}
 
-abbrev of_binary : Variable → Bool
-of_binary v = is_binary v.family
+-- of the binary, and of no inlined call
+abbrev pub of_binary : Variable → Bool
+of_binary v = is_binary v.family && (v.instance == 0)
 
 abbrev Own : Term → Type 0
-Own t = IsOwnTerm is_binary t
+Own t = IsKindTerm of_binary t
+
+abbrev AreOwn : List Binding → Type 0
+AreOwn bindings = All (IsKindBinding of_binary) bindings
 
 number_own : (n : ℕ) → Own (number n)
 number_own n = const_own of_binary W32 n
@@ -158,17 +164,17 @@ home_own = two_own of_binary _ (open_term (register 1)) (open_term (entry_regist
 
 -- ---- bindings
 
-none : AreOwnBindings is_binary []
-none = All-nil (IsOwnBinding is_binary)
+none : AreOwn []
+none = All-nil (IsKindBinding of_binary)
 
-put_own : (r : ℕ) (t : Term) → Own t → AreOwnBindings is_binary (put r t)
+put_own : (r : ℕ) (t : Term) → Own t → AreOwn (put r t)
 put_own r t h = at (r == 0)
   where
-    at : (b : Bool) → AreOwnBindings is_binary (cond b [] (record { variable = register r; term = t } ∷ []))
+    at : (b : Bool) → AreOwn (cond b [] (record { variable = register r; term = t } ∷ []))
     at true = none
-    at false = All-cons (IsOwnBinding is_binary) (record { variable = register r; term = t }) [] (refl, h) none
+    at false = All-cons (IsKindBinding of_binary) (record { variable = register r; term = t }) [] (refl, h) none
 
-effects_own : (pc : ℕ) (i : Instr) → AreOwnBindings is_binary (effects pc i)
+effects_own : (pc : ℕ) (i : Instr) → AreOwn (effects pc i)
 unfolding effects
 effects_own pc (instr.Lui rd imm) = put_own rd _ (number_own _)
 effects_own pc (instr.Auipc rd imm) = put_own rd _ (number_own _)
@@ -178,7 +184,7 @@ effects_own pc (instr.Branch test left right offset) = none
 effects_own pc (instr.Load kind rd base offset) =
     put_own rd _ (loaded_own kind (address base offset) (address_own base (word offset) (operand_own base) (number_own (word offset))))
 effects_own pc (instr.Store kind base source offset) =
-    All-cons (IsOwnBinding is_binary) (record { variable = memory; term = stored kind (address base offset) (operand source) }) []
+    All-cons (IsKindBinding of_binary) (record { variable = memory; term = stored kind (address base offset) (operand source) }) []
     (refl, stored_own kind (address base offset) (operand source) (address_own base (word offset) (operand_own base) (number_own (word offset))) (operand_own source)) none
 effects_own pc (instr.Immediate operation rd source imm) = put_own rd _ (computed_own _ (operand source) (number (word imm)) (operand_own source) (number_own (word imm)))
 effects_own pc (instr.Shift operation rd source amount) = put_own rd _ (computed_own _ (operand source) (number amount) (operand_own source) (number_own amount))
@@ -223,21 +229,21 @@ bounded_own (instr.Fence rd source bits) = number_own 0
 bounded_own instr.Ecall = number_own 0
 bounded_own instr.Ebreak = number_own 0
 
-keeping_own : (i : Instr) → AreOwnBindings is_binary (record { variable = table_index; term = bounded_by i } ∷ [])
-keeping_own i = All-cons (IsOwnBinding is_binary) (record { variable = table_index; term = bounded_by i }) [] (refl, bounded_own i) none
+keeping_own : (i : Instr) → AreOwn (record { variable = table_index; term = bounded_by i } ∷ [])
+keeping_own i = All-cons (IsKindBinding of_binary) (record { variable = table_index; term = bounded_by i }) [] (refl, bounded_own i) none
 
-entries_own : (rs : List ℕ) → AreOwnBindings is_binary (map entry_binding rs)
+entries_own : (rs : List ℕ) → AreOwn (map entry_binding rs)
 entries_own [] = none
-entries_own (r ∷ rs) = All-cons (IsOwnBinding is_binary) (entry_binding r) (map entry_binding rs) (refl, register_own r) (entries_own rs)
+entries_own (r ∷ rs) = All-cons (IsKindBinding of_binary) (entry_binding r) (map entry_binding rs) (refl, register_own r) (entries_own rs)
 
-call_own : (back : ℕ) → AreOwnBindings is_binary (call_inputs back)
+call_own : (back : ℕ) → AreOwn (call_inputs back)
 unfolding call_inputs
 call_own back =
-    All-cons (IsOwnBinding is_binary) (record { variable = register 1; term = number back }) (record { variable = entry_register 1; term = number back } ∷ map entry_binding other_registers)
+    All-cons (IsKindBinding of_binary) (record { variable = register 1; term = number back }) (record { variable = entry_register 1; term = number back } ∷ map entry_binding other_registers)
     (refl, number_own back)
-    (All-cons (IsOwnBinding is_binary) (record { variable = entry_register 1; term = number back }) (map entry_binding other_registers) (refl, number_own back) (entries_own other_registers))
+    (All-cons (IsKindBinding of_binary) (record { variable = entry_register 1; term = number back }) (map entry_binding other_registers) (refl, number_own back) (entries_own other_registers))
 
-tail_own : AreOwnBindings is_binary tail_inputs
+tail_own : AreOwn tail_inputs
 unfolding tail_inputs
 tail_own = entries_own (1 ∷ other_registers)
 
@@ -256,7 +262,7 @@ HasCallNumber number (Cond test on_true on_false) = ⊤
 HasCallNumber number (Call callee inputs outputs lands) = (target : ℕ) × (callee ≡ number target)
 
 abbrev IsGood : Setting → Node → Type 0
-IsGood f node = IsOwnNode is_binary node × HasCallShape node × HasCallNumber f.graph_number node
+IsGood f node = IsKindNode of_binary node × HasCallShape node × HasCallNumber f.graph_number node
 
 EndsGood : Setting → Ending → Type 0
 EndsGood f (Does node further) = All (IsGood f) (node ∷ further)
@@ -342,8 +348,24 @@ all_good image f graph is k d below =
     let there : slice_get graph.nodes k ≡ Some at.1 = ap (slice_get graph.nodes) (sym at.3) ∙ is.there at.0 at.1 at.2 in
     subst (IsGood f) (sym (get_or_from_slice_get graph.nodes k at.1 d there)) (node_good image f at.0 at.1 at.2)
 
+-- none of its variables is of an inlined call
+pub code_is_first : (image : Image) (f : Setting) (graph : Graph) → IsCodeGraph image f graph → All (IsKindNode of_binary) graph.nodes
+code_is_first image f graph is k d below = (all_good image f graph is k d below).0
+
+first_of_binary : (v : Variable) → of_binary v ≡ true → is_binary v.family ≡ true
+first_of_binary v own = (and_parts (is_binary v.family) (v.instance == 0) own).0
+
+own_bindings : (bindings : List Binding) → AreOwn bindings → AreOwnBindings is_binary bindings
+own_bindings bindings all =
+    All-weaker (IsKindBinding of_binary) (IsOwnBinding is_binary) (λ b h. (first_of_binary b.variable h.0, λ v o. first_of_binary v (h.1 v o))) bindings all
+
+own_node : (node : Node) → IsKindNode of_binary node → IsOwnNode is_binary node
+own_node (Basic bindings next) h = own_bindings bindings h
+own_node (Cond test on_true on_false) h = λ v o. first_of_binary v (h v o)
+own_node (Call callee inputs outputs lands) h = (own_bindings inputs h.0, own_bindings outputs h.1)
+
 pub code_is_own : (image : Image) (f : Setting) (graph : Graph) → IsCodeGraph image f graph → IsOwnGraph is_binary graph
-code_is_own image f graph is k d below = (all_good image f graph is k d below).0
+code_is_own image f graph is = All-weaker (IsKindNode of_binary) (IsOwnNode is_binary) own_node graph.nodes (code_is_first image f graph is)
 
 pub code_call_shape : (image : Image) (f : Setting) (graph : Graph) → IsCodeGraph image f graph → All HasCallShape graph.nodes
 code_call_shape image f graph is k d below = (all_good image f graph is k d below).1

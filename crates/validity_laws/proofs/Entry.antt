@@ -23,7 +23,7 @@ use Rattle.c_graph_spec.specs.Values.{at_width}
 use Rattle.c_graph_laws.proofs.Extents.{IsPlain as IsPlainType, ResultExtent, full, scalar}
 use Rattle.c_graph_laws.proofs.Sorted.{at_width_sorted}
 use Rattle.sim_rules_spec.specs.Points.{binary_memory, source_memory, zone_memory, address, is_binary, is_source, of_sides, in_zone, same_byte}
-use Rattle.sim_rules_spec.specs.Calling.{Run, word, register, at_entry, kept_registers, result_lines, return_lines, zone_from, outside_zone, global_pointer_lines}
+use Rattle.sim_rules_spec.specs.Calling.{word, register, at_entry, kept_registers, result_lines, return_lines, zone_from, outside_zone, global_pointer_lines}
 use Rattle.sim_rules_spec.specs.Rules.{Opening, terms_at_start, terms_at, at_cut}
 use Rattle.agreement_laws.specs.EntryFrame.{Pair, Fact, given, result_term, widened, parameter, run_of, argument_facts, registers, binary_facts, local_facts, zone_facts, source_facts, entry_opening, entry_premises}
 use Rattle.validity_laws.specs.Derivation.{no_zone, stated}

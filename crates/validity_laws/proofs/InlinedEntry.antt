@@ -1,7 +1,7 @@
 -- Where the frame at the entry of a function is simulated over graphs with calls inlined, it is over the function's graphs.
-use Rattle.std.proofs.Common.{◌≡◌, ◌≢◌, ◌∙◌, ◌⊎◌, inl, inr, ℕ, suc, ◌+◌, ◌<◌, Bool, true, false, if◌then◌else◌, refl, sym, ap, subst, arith, List, [], ◌∷◌, ◌++◌, length, map, get_or, All, Option, Some, None, slice_get}
+use Rattle.std.proofs.Common.{◌≡◌, ◌∙◌, inl, inr, ℕ, suc, ◌+◌, ◌<◌, Bool, true, false, if◌then◌else◌, refl, sym, ap, subst, arith, List, [], ◌∷◌, ◌++◌, length, map, get_or, All, Option, Some, None, slice_get}
 use Rattle.std.specs.Prelude.{nat_lt}
-use Rattle.std.proofs.lemmas.List.Elements.{All-nil, All-cons, All-append, All-map, All-weaker, All-contains}
+use Rattle.std.proofs.lemmas.List.Elements.{All-nil, All-cons, All-append, All-map, All-weaker}
 use Rattle.std.proofs.lemmas.Option.{same_Some, slice_get-get_or, slice_get_within}
 use Rattle.memory_spec.specs.Zones.{Zone}
 use Rattle.term_core_spec.specs.declared.Width.{Width}
@@ -9,7 +9,7 @@ use Rattle.term_core_spec.specs.declared.Width.TheVariants.{W32}
 use Rattle.term_core_spec.specs.declared.Variable.{Variable}
 use Rattle.term_core_spec.specs.Sort.{bits}
 use Rattle.term_core_spec.specs.Term.{Term, Occurs, equal, open_term, truth, sign_extend, zero_extend, low}
-use Rattle.graph_core_spec.specs.Graph.{Binding, Node, Basic, Cond, Call, Graph}
+use Rattle.graph_core_spec.specs.Graph.{Graph}
 use Rattle.decompile_spec.specs.Blocks.{Entrance}
 use Rattle.decompile_spec.specs.CodeGraph.{entrance}
 use Rattle.decompile_spec.specs.State.{register, entry_register}
@@ -24,7 +24,6 @@ use Rattle.sim_rules_spec.specs.Points.{Convention, all_hold, with_memory, same_
 use Rattle.sim_rules_spec.specs.Calling.{zone_from, at_entry, word, kept_registers, result_lines}
 use Rattle.sim_rules_spec.specs.Calling as calling
 use Rattle.sim_rules_spec.specs.Systems.{IsSimulated}
-use Rattle.sim_rules_spec.proofs.Start.{all_at}
 use Rattle.sim_inline_laws.specs.Frames.{Stays, IsNeverBound, IsWhole}
 use Rattle.sim_inline_laws.specs.Runs.{IsOfFunction}
 use Rattle.sim_inline_laws.specs.Unfolding.{Inlinable, Functions, AreInlinable}

@@ -1,6 +1,6 @@
 -- What the graphs of a proof have of the function's: their nodes are of the same shapes, and the functions that they call run
 -- as they do in the set.
-use Rattle.std.proofs.Common.{◌≡◌, ℕ, Bool, true, refl, inl, [], All, Some, slice_get}
+use Rattle.std.proofs.Common.{◌≡◌, Bool, true, refl, inl, [], All, Some, slice_get}
 use Rattle.std.proofs.lemmas.List.Elements.{All-nil, All-cons, All-weaker}
 use Rattle.term_core_spec.specs.declared.Family.{Family}
 use Rattle.term_core_spec.specs.declared.Variable.{Variable}

@@ -1,6 +1,6 @@
 -- Graphs of C with calls inlined speak of the source's variables alone, with one memory; their calls pass an argument of its
 -- type for each parameter.
-use Rattle.std.proofs.Common.{◌≡◌, ◌∙◌, ℕ, suc, Bool, true, false, ◌&&◌, if◌then◌else◌, refl, sym, ap, subst, arith, List, [], ◌∷◌, map, All, Some, slice_get}
+use Rattle.std.proofs.Common.{◌≡◌, ◌∙◌, ℕ, suc, Bool, true, false, ◌&&◌, if◌then◌else◌, refl, sym, ap, subst, List, [], ◌∷◌, map, All, Some, slice_get}
 use Rattle.std.specs.Prelude.{◌||◌, not}
 use Rattle.std.proofs.lemmas.Bool.{and_parts}
 use Rattle.std.proofs.lemmas.List.Elements.{All-nil, All-cons, All-head, All-map, All-tail}

@@ -24,6 +24,8 @@ pub mod Shown
 pub mod Inlinable
 pub mod Unfolding
 pub mod Accepted
+pub mod OwnVariables
+pub mod KnownFunctions
 pub mod Proved
 pub mod Excluded
 pub mod Truths

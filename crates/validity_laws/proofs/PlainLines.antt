@@ -136,7 +136,7 @@ pub plain_lines : (s : scope.Setting) → HasWords s → (path : List ℕ) (line
 plain_lines s words path lines all i d lt = plain_line s words path _ (all i d lt)
 
 -- parameters and locals of a function are words
-scalars : (types : List Scalar) → All (λ (t : Sort). is_memory t ≡ false) (map sort_of_scalar types)
+pub scalars : (types : List Scalar) → All (λ (t : Sort). is_memory t ≡ false) (map sort_of_scalar types)
 scalars [] = All-nil (λ (t : Sort). is_memory t ≡ false)
 scalars (type ∷ types) = All-cons (λ (t : Sort). is_memory t ≡ false) (sort_of_scalar type) (map sort_of_scalar types) refl (scalars types)
 

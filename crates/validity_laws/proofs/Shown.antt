@@ -9,7 +9,6 @@ use Rattle.graph_core_spec.specs.TransitionSystem.{AreCounted}
 use Rattle.graph_core_spec.specs.declared.Mark.{Mark}
 use Rattle.graph_core_spec.specs.Graph as graph
 use Rattle.graph_core_spec.specs.Graph.{Node, Graph, Graphs, IsNode, node_at}
-use Rattle.decompile_laws.specs.Together.{setting}
 use Rattle.c_graph_spec.specs.SourceGraph.{body_number, graph_of, graphs_of}
 use Rattle.proof_tree_spec.specs.declared.Counts.{Counts}
 use Rattle.proof_tree_spec.specs.declared.Nodes.{Nodes}

@@ -17,7 +17,6 @@ use Rattle.graph_core_spec.specs.Run.{State, IsPath, Lands}
 use Rattle.graph_core_spec.specs.Sorts.{IsSorted}
 use Rattle.graph_core_spec.proofs.Sorts.{stays_sorted}
 use Rattle.graph_core_spec.proofs.Walks.{is_system}
-use Rattle.decompile_laws.specs.Together.{setting}
 use Rattle.c_token_spec.specs.Words.{entry_of}
 use Rattle.c_types_spec.specs.declared.Scalar.{Scalar}
 use Rattle.c_types_spec.specs.Core.{FunctionType}

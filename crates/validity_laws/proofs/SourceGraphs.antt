@@ -1,5 +1,5 @@
 -- Graphs of C speak of locals, whether they are set, one memory and further words; and what their calls bind.
-use Rattle.std.proofs.Common.{◌≡◌, ◌∙◌, ℕ, suc, ◌+◌, true, false, ℤ, refl, sym, ap, List, [], ◌∷◌, ◌++◌, length, map, All, Option, Some, None, bytes_eq, Bool, cond, if◌then◌else◌, arith}
+use Rattle.std.proofs.Common.{◌≡◌, ◌∙◌, ℕ, suc, ◌+◌, ◌==◌, true, false, ℤ, refl, sym, ap, List, [], ◌∷◌, ◌++◌, length, map, All, Option, Some, None, bytes_eq, Bool, cond, if◌then◌else◌, arith}
 use Rattle.std.specs.Prelude.{⊤, ◌||◌, not}
 use Rattle.std.proofs.lemmas.List.Elements.{All-nil, All-cons, All-append, All-head, All-tail, All-weaker}
 use Rattle.std.proofs.lemmas.Bool.{and_parts}
@@ -9,14 +9,14 @@ use Rattle.term_core_spec.specs.Same.{same_variable}
 use Rattle.term_core_spec.specs.Term.{Term, Occurs, truth, open_term, equal}
 use Rattle.graph_core_spec.specs.declared.Next.{Next}
 use Rattle.graph_core_spec.specs.declared.Next.TheVariants.{At, Ret, Err}
-use Rattle.graph_core_spec.specs.Graph.{Binding, Node, Basic, Cond, Graph, node_at}
+use Rattle.graph_core_spec.specs.Graph.{Binding, Node, Basic, Cond, Graph}
 use Rattle.graph_core_spec.specs.Graph as graph
 use Rattle.c_token_spec.specs.Words.{entry_of}
 use Rattle.c_types_spec.specs.declared.Scalar.{Scalar}
 use Rattle.c_types_spec.specs.declared.TestPlace.TheVariants.{Before, After}
 use Rattle.c_types_spec.specs.Core.{Core, FunctionType, Body, Typed, Action, Groups, type_of}
 use Rattle.c_types_spec.specs.HasType as typed
-use Rattle.c_types_spec.specs.HasType.{HasType, HaveTypes, IsTyped, AreTyped, IsTypedBody, scope_of}
+use Rattle.c_types_spec.specs.HasType.{HaveTypes, IsTyped, AreTyped, IsTypedBody, scope_of}
 use Rattle.c_run_spec.specs.Calls.{body_named}
 use Rattle.c_graph_spec.specs.State.{width_of, local, is_set, memory, result, value_constant}
 use Rattle.c_graph_spec.specs.Values.{Object, object, no_object, at_width, value_term}
@@ -27,9 +27,10 @@ use Rattle.c_graph_laws.proofs.ExpressionSorts.{type_is}
 use Rattle.sim_rules_spec.specs.Points.{is_source}
 use Rattle.sim_rules_spec.specs.Calls.{IsGivenTerm}
 use Rattle.sim_rules_spec.specs.Proper.{IsOwnBinding, AreOwnBindings, IsOwnNode, IsOwnGraph}
+use Rattle.sim_inline_laws.proofs.OfKind.{IsKindTerm, IsKindBinding, IsKindNode}
 use Rattle.validity_laws.proofs.Speaking.{const_own, truth_own, open_own, two_own}
 use Rattle.validity_laws.proofs.PlainLines.{result_given}
-use Rattle.validity_laws.proofs.SourceSpeaks.{is_source_memory, is_spoken, Own, width_own, stored_own, speaks, writes_own, tests_own}
+use Rattle.validity_laws.proofs.SourceSpeaks.{is_source_memory, is_spoken, is_first, Own, width_own, stored_own, speaks, writes_own, tests_own}
 
 -- ---- what a call node binds: an argument of its type for each parameter; and where it is back what its callee gives
 
@@ -44,14 +45,14 @@ HasCallShape unit f (graph.Call callee ins outs lands) =
 -- ---- nodes whose terms and variables are of the source, with its only memory
 
 abbrev pub IsSpokenBinding : Binding → Type 0
-IsSpokenBinding b = (is_spoken b.variable ≡ true) × Own b.term
+IsSpokenBinding b = IsKindBinding is_spoken b
 
 abbrev pub AreSpokenBindings : List Binding → Type 0
 AreSpokenBindings bindings = All IsSpokenBinding bindings
 
 abbrev pub IsSpokenNode : Node → Type 0
 IsSpokenNode (Basic bindings next) = AreSpokenBindings bindings
-IsSpokenNode (Cond test on_true on_false) = Own test
+IsSpokenNode (Cond test on_true on_false) = IsKindTerm is_spoken test
 IsSpokenNode (graph.Call callee ins outs lands) = AreSpokenBindings ins × AreSpokenBindings outs
 
 abbrev pub IsSpokenGraph : Graph → Type 0
@@ -68,22 +69,30 @@ node_of_source (Basic bindings next) h = bindings_of_source bindings h
 node_of_source (Cond test on_true on_false) h = λ v o. of_source v (h v o)
 node_of_source (graph.Call callee ins outs lands) h = (bindings_of_source ins h.0, bindings_of_source outs h.1)
 
+-- none of them of an inlined call
+
+abbrev AreFirstBindings : List Binding → Type 0
+AreFirstBindings bindings = All (IsKindBinding is_first) bindings
+
+abbrev pub IsFirstGraph : Graph → Type 0
+IsFirstGraph g = All (IsKindNode is_first) g.nodes
+
 -- ---- bindings
 
-none : AreSpokenBindings []
-none = All-nil IsSpokenBinding
+none : AreFirstBindings []
+none = All-nil (IsKindBinding is_first)
 
-set_own : (index : ℕ) (type : Scalar) (x : Term) → Own x → AreSpokenBindings (set_local index type x)
+set_own : (index : ℕ) (type : Scalar) (x : Term) → Own x → AreFirstBindings (set_local index type x)
 set_own index type x h =
-    All-cons IsSpokenBinding (binding (local index type) x) (binding (is_set index) (truth true) ∷ []) (refl, h)
-    (All-cons IsSpokenBinding (binding (is_set index) (truth true)) [] (refl, truth_own is_spoken true) none)
+    All-cons (IsKindBinding is_first) (binding (local index type) x) (binding (is_set index) (truth true) ∷ []) (refl, h)
+    (All-cons (IsKindBinding is_first) (binding (is_set index) (truth true)) [] (refl, truth_own is_first true) none)
 
-outputs_own : (place : Option ℕ) (local_type : ℕ → Scalar) (type : Option Scalar) → AreSpokenBindings (result_put place local_type type)
+outputs_own : (place : Option ℕ) (local_type : ℕ → Scalar) (type : Option Scalar) → AreFirstBindings (result_put place local_type type)
 outputs_own None local_type type = none
 outputs_own (Some index) local_type None = none
 outputs_own (Some index) local_type (Some type) =
     set_own index (local_type index) (at_width type (width_of (local_type index)) (open_term (result type)))
-    (width_own type (width_of (local_type index)) (open_term (result type)) (open_own is_spoken (result type) refl))
+    (width_own type (width_of (local_type index)) (open_term (result type)) (open_own is_first (result type) refl))
 
 outputs_given : (place : Option ℕ) (local_type : ℕ → Scalar) (type : Option Scalar) → All (λ (b : Binding). IsGivenTerm b.term) (result_put place local_type type)
 unfolding Occurs
@@ -96,10 +105,10 @@ outputs_given (Some index) local_type (Some type) =
 
 module _ (unit : Typed) (f : Setting) where
   abbrev IsGood : Node → Type 0
-  IsGood node = IsSpokenNode node × HasCallShape unit f node
+  IsGood node = IsKindNode is_first node × HasCallShape unit f node
 
   base_own : Own no_object.base
-  base_own = const_own is_spoken _ 0
+  base_own = const_own is_first _ 0
 
   word_own : (x : Core) → Own (value_in f x)
   word_own x = (speaks f.place.globals no_object base_own x).0
@@ -115,11 +124,11 @@ module _ (unit : Typed) (f : Setting) where
   arguments_own [] = All-nil Own
   arguments_own (x ∷ list) = All-append Own (tests_in f x) (argument_tests f list) (all_tests x) (arguments_own list)
 
-  inputs_own : (index : ℕ) (list : List Core) → AreSpokenBindings (inputs f index list)
+  inputs_own : (index : ℕ) (list : List Core) → AreFirstBindings (inputs f index list)
   unfolding inputs
   inputs_own index [] = none
   inputs_own index (x ∷ list) =
-      All-append IsSpokenBinding (set_local index (type_of x) (value_in f x)) (inputs f (suc index) list) (set_own index (type_of x) (value_in f x) (word_own x)) (inputs_own (suc index) list)
+      All-append (IsKindBinding is_first) (set_local index (type_of x) (value_in f x)) (inputs f (suc index) list) (set_own index (type_of x) (value_in f x) (word_own x)) (inputs_own (suc index) list)
 
   store_own : (type : Scalar) (address : Core) (displacement : ℕ) (x : Core) → All Own (store_tests f type address displacement x) × Own (memory_stored f type address displacement x)
   store_own type address displacement x =
@@ -149,7 +158,7 @@ module _ (unit : Typed) (f : Setting) where
   selection_good type x h [] at other = All-nil IsGood
   selection_good type x h (one ∷ entries) at other =
       All-cons IsGood (Cond (equal x (value_constant type one.0)) one.1 (first (length entries) (suc at) other)) (selection type x entries (suc at) other)
-      (two_own is_spoken _ x (value_constant type one.0) h (const_own is_spoken (width_of type) _), tt) (selection_good type x h entries (suc at) other)
+      (two_own is_first _ x (value_constant type one.0) h (const_own is_first (width_of type) _), tt) (selection_good type x h entries (suc at) other)
 
   module _ (body : Body) where
     types_are : (list : List Core) (types : List Scalar) → HaveTypes (scope_of unit body) list types → map type_of list ≡ types
@@ -169,11 +178,11 @@ module _ (unit : Typed) (f : Setting) where
       nodes_good _ (typed.set index x t is has) at to e =
           guarded_good (tests_in f x) at (Basic (set_local index (type_of x) (value_in f x)) to) (all_tests x) (set_own index (type_of x) (value_in f x) (word_own x), tt)
       nodes_good _ (typed.unset index t is) at to e =
-          one_node (Basic (binding (is_set index) (truth false) ∷ []) to) (All-cons IsSpokenBinding (binding (is_set index) (truth false)) [] (refl, truth_own is_spoken false) none, tt)
+          one_node (Basic (binding (is_set index) (truth false) ∷ []) to) (All-cons (IsKindBinding is_first) (binding (is_set index) (truth false)) [] (refl, truth_own is_first false) none, tt)
       nodes_good _ (typed.store t address displacement x offset ha hx) at to e =
           let are = store_own t address displacement x in
           guarded_good (store_tests f t address displacement x) at (Basic (binding memory (memory_stored f t address displacement x) ∷ []) to) are.0
-          (All-cons IsSpokenBinding (binding memory (memory_stored f t address displacement x)) [] (refl, are.1) none, tt)
+          (All-cons (IsKindBinding is_first) (binding memory (memory_stored f t address displacement x)) [] (refl, are.1) none, tt)
       nodes_good _ (typed.call index function arguments place type named haves receives) at to e =
           let node = graph.Call (f.graph_number function) (inputs f 0 arguments) (outputs f function place) (at + length (argument_tests f arguments) + 1) in
           All-append IsGood (guarded (argument_tests f arguments) at node) (Basic [] to ∷ [])
@@ -217,8 +226,8 @@ module _ (unit : Typed) (f : Setting) where
       nodes_good _ (typed.give_back None is) at to e = All-nil IsGood
       nodes_good _ (typed.give_back (Some x) is) at to e =
           guarded_good (tests_in f x) at (Basic (binding (result (type_of x)) (value_in f x) ∷ []) Ret) (all_tests x)
-          (All-cons IsSpokenBinding (binding (result (type_of x)) (value_in f x)) [] (refl, word_own x) none, tt)
-      nodes_good _ (typed.missing_return offset) at to e = one_node (Cond (truth false) Err Err) (truth_own is_spoken false, tt)
+          (All-cons (IsKindBinding is_first) (binding (result (type_of x)) (value_in f x)) [] (refl, word_own x) none, tt)
+      nodes_good _ (typed.missing_return offset) at to e = one_node (Cond (truth false) Err Err) (truth_own is_first false, tt)
 
       groups_good : (t : Scalar) (list : Groups) → AreTyped (scope_of unit body) t list → (at : ℕ) (to : Next) (e : Exits) → All IsGood (groups_nodes f list at to e)
       groups_good _ _ (typed.last_group t) at to e = All-nil IsGood
@@ -238,15 +247,32 @@ graph_good unit p body is =
 pub source_call_shape : (unit : Typed) (p : Place) (body : Body) → IsTypedBody unit body → All (HasCallShape unit (setting_of unit p body)) (graph_of unit p body).nodes
 source_call_shape unit p body is k d below = (graph_good unit p body is k d below).1
 
-each_spoken : (unit : Typed) (p : Place) (bodies : List Body) → All (λ (b : Body). IsTypedBody unit b) bodies → All IsSpokenGraph (map (graph_of unit p) bodies)
-each_spoken unit p [] are = All-nil IsSpokenGraph
-each_spoken unit p (body ∷ bodies) are =
-    All-cons IsSpokenGraph (graph_of unit p body) (map (graph_of unit p) bodies)
+each_first : (unit : Typed) (p : Place) (bodies : List Body) → All (λ (b : Body). IsTypedBody unit b) bodies → All IsFirstGraph (map (graph_of unit p) bodies)
+each_first unit p [] are = All-nil IsFirstGraph
+each_first unit p (body ∷ bodies) are =
+    All-cons IsFirstGraph (graph_of unit p body) (map (graph_of unit p) bodies)
     (λ k d below. (graph_good unit p body (All-head (λ (b : Body). IsTypedBody unit b) body bodies are) k d below).0)
-    (each_spoken unit p bodies (All-tail (λ (b : Body). IsTypedBody unit b) body bodies are))
+    (each_first unit p bodies (All-tail (λ (b : Body). IsTypedBody unit b) body bodies are))
+
+-- none of their variables is of an inlined call
+pub source_is_first : (unit : Typed) (p : Place) → All (λ (b : Body). IsTypedBody unit b) unit.bodies → All IsFirstGraph (graphs_of unit p)
+source_is_first unit p are = each_first unit p unit.bodies are
+
+first_spoken : (v : Variable) → is_first v ≡ true → is_spoken v ≡ true
+first_spoken v first = (and_parts (is_spoken v) (v.instance == 0) first).0
+
+bindings_spoken : (bindings : List Binding) → AreFirstBindings bindings → AreSpokenBindings bindings
+bindings_spoken bindings all =
+    All-weaker (IsKindBinding is_first) IsSpokenBinding (λ b h. (first_spoken b.variable h.0, λ v o. first_spoken v (h.1 v o))) bindings all
+
+node_spoken : (node : Node) → IsKindNode is_first node → IsSpokenNode node
+node_spoken (Basic bindings next) h = bindings_spoken bindings h
+node_spoken (Cond test on_true on_false) h = λ v o. first_spoken v (h v o)
+node_spoken (graph.Call callee ins outs lands) h = (bindings_spoken ins h.0, bindings_spoken outs h.1)
 
 pub source_is_spoken : (unit : Typed) (p : Place) → All (λ (b : Body). IsTypedBody unit b) unit.bodies → All IsSpokenGraph (graphs_of unit p)
-source_is_spoken unit p are = each_spoken unit p unit.bodies are
+source_is_spoken unit p are =
+    All-weaker IsFirstGraph IsSpokenGraph (λ g h. All-weaker (IsKindNode is_first) IsSpokenNode node_spoken g.nodes h) (graphs_of unit p) (source_is_first unit p are)
 
 pub source_is_own : (unit : Typed) (p : Place) → All (λ (b : Body). IsTypedBody unit b) unit.bodies → All (IsOwnGraph is_source) (graphs_of unit p)
 source_is_own unit p are =

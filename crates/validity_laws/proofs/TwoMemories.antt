@@ -1,5 +1,5 @@
 -- Terms in which the source has two memories: the one, and the one that a callee leaves.
-use Rattle.std.proofs.Common.{◌≡◌, ◌∙◌, ◌⊎◌, Bool, true, false, if◌then◌else◌, List, [], ◌∷◌, map, Some, refl, sym, ap, subst, inl, inr}
+use Rattle.std.proofs.Common.{◌≡◌, ◌∙◌, ◌⊎◌, Bool, true, false, if◌then◌else◌, List, [], ◌∷◌, Some, refl, sym, ap, subst, inl, inr}
 use Rattle.std.specs.Prelude.{All}
 use Rattle.std.specs.List.{fold}
 use Rattle.std.proofs.lemmas.List.Elements.{All-head, All-tail}
@@ -19,7 +19,7 @@ use Rattle.path_cond_spec.specs.Conditions.{assigned}
 use Rattle.sim_rules_spec.specs.Points.{source_memory}
 use Rattle.sim_rules_spec.specs.Rules.{all_of, under}
 use Rattle.sim_rules_spec.specs.Calls.{fresh, left}
-use Rattle.validity_laws.proofs.Good.{IsPlain, IsGood, IsTest, AreTests}
+use Rattle.validity_laws.proofs.Good.{IsPlain, IsGood, AreTests}
 use Rattle.validity_laws.proofs.Conditions.{IsGoodBinding}
 
 -- a memory of the source is one of the two

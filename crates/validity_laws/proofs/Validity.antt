@@ -1,5 +1,5 @@
 -- Goals that logs close are true wherever the source's memories hold the fixed bytes.
-use Rattle.std.proofs.Common.{◌≡◌, ◌∙◌, ◌⊎◌, ℕ, Bool, true, false, if◌then◌else◌, List, [], Option, Some, refl, sym, ap, subst, inl, inr}
+use Rattle.std.proofs.Common.{◌≡◌, ◌∙◌, ◌⊎◌, ℕ, Bool, true, false, if◌then◌else◌, List, Option, Some, refl, sym, ap, subst, inl, inr}
 use Rattle.std.proofs.lemmas.Bool.{eqb-true}
 use Rattle.memory_spec.specs.Runs.{Run, AreBytes, fixed_byte}
 use Rattle.term_core_spec.specs.declared.Sort.{Sort}
@@ -11,7 +11,7 @@ use Rattle.term_core_spec.specs.Term.{Term, Occurs}
 use Rattle.term_core_spec.specs.Sort.{sort_of}
 use Rattle.term_core_spec.specs.Same.{same_variable}
 use Rattle.term_core_spec.proofs.Same.{variable-same}
-use Rattle.term_core_spec.specs.Value.{Value, Truth, Bytes, Assignment, IsAssignment, IsOfSort}
+use Rattle.term_core_spec.specs.Value.{Value, Bytes, Assignment, IsAssignment, IsOfSort}
 use Rattle.term_core_spec.proofs.Variables.{value-occurs}
 use Rattle.term_norm_spec.specs.Fixed.{HoldsFixed}
 use Rattle.graph_core_spec.specs.Run.{is_truth}

@@ -20,6 +20,7 @@ use Rattle.agreement_laws.specs.EntryFrame.{Pair, place_of}
 use Rattle.cert_check_lines_spec.specs.Parts.{CodeFunction, SourceFunction, Functions, Member, State, Between, AreAccepted, IsPlainLine}
 use Rattle.cert_check_lines_spec.specs.Members.{member_of}
 use Rattle.validity_laws.specs.Inlined.{is_own_of_source}
+use Rattle.validity_laws.specs.OwnVariables.{functions_of, IsNumbered}
 use Rattle.validity_laws.specs.Derivation.{Function, AreSides}
 use Rattle.validity_laws.specs.CheckStatements.{listed_of, IsFile, AreFunctions, AreAtNames}
 
@@ -70,3 +71,8 @@ WholeIsValid = (q : Pair) (firsts : List (List (ℕ × ℕ))) (functions : List 
     → AreFunctions q functions → AreAtNames q functions → AreKnown q functions fs
     → AreAccepted fs (map (member_for q firsts) functions) 0 (Between []) (lines ++ line.End ∷ []) final → (g : Function) → Contains functions g
     → IsStack q.image g.entry g.stack → IsValid q.image q.unit g.body.name g.stack
+
+-- what such lines read of the functions of an executable and a unit is right, where it is what their graphs have
+abbrev pub FunctionsAreKnown : Type 0
+FunctionsAreKnown = (q : Pair) (firsts : List (List (ℕ × ℕ))) (functions : List Function) → AreSides q → IsNumbered q → AreFunctions q functions
+    → AreKnown q functions (functions_of q firsts)

@@ -4,5 +4,6 @@ pub mod Statements
 pub mod Closed
 pub mod CheckStatements
 pub mod Shown
+pub mod OwnVariables
 pub mod Accepted
 pub mod Laws

@@ -1,6 +1,6 @@
 //! The laws of checked certificates: each function's clause is one law, and its body is empty.
 
-ghost use Rattle.validity_laws.specs.Accepted.{AcceptedIsValid, WholeIsValid};
+ghost use Rattle.validity_laws.specs.Accepted.{AcceptedIsValid, FunctionsAreKnown, WholeIsValid};
 ghost use Rattle.validity_laws.specs.CheckStatements.{ClosedIsValid, ProofsGiveValidity};
 ghost use Rattle.validity_laws.specs.Shown.{ShownIsProved, ShownPartsAreValid};
 
@@ -37,4 +37,10 @@ pub fn what_is_accepted_is_valid()
 /// calls of functions whose graphs and own variables are known.
 pub fn what_inlines_is_valid()
     ensures { WholeIsValid }
+{}
+
+/// What such lines read of functions is right, where it is what the functions' graphs have: their
+/// nodes, and all own variables that these speak of.
+pub fn functions_are_known()
+    ensures { FunctionsAreKnown }
 {}

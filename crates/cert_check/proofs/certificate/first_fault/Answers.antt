@@ -1,4 +1,4 @@
-use Rattle.std.proofs.Common.{◌<◌, ◌≤◌, ◌∙◌, ℕ, List, length, drop, arith, refl, ap}
+use Rattle.std.proofs.Common.{◌<◌, ◌≤◌, ◌∙◌, ℕ, length, drop, arith, refl, ap}
 use Rattle.cert_check.proofs.Lined.{at_start, line_read, can_be_next, given_more, is_wrong, all_given}
 use Rattle.cert_check.proofs.certificate.first_fault.Goals as goal
 

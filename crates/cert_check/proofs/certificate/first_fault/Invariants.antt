@@ -1,4 +1,3 @@
-use Rattle.std.proofs.Common.{◌≡◌}
 use Rattle.cert_check.proofs.Lined.{IsGiven}
 use Rattle.cert_check.proofs.certificate.first_fault.Given as goal
 

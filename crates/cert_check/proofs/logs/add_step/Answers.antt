@@ -1,4 +1,4 @@
-use Rattle.std.proofs.Common.{◌≡◌, ◌≤◌, ◌∙◌, sym, subst, map}
+use Rattle.std.proofs.Common.{◌≤◌, ◌∙◌, sym, subst, map}
 use Rattle.std.proofs.lemmas.Option.{same_Some}
 use Rattle.cnf_core.specs.declared.literals.TheConstants.{MAX_VARIABLE}
 use Rattle.cert_text_parse.specs.Views.{literal_of}

@@ -1,4 +1,4 @@
-use Rattle.std.proofs.Common.{◌≡◌, ◌∙◌, ◌++◌, ℕ, List, Ok, Err, length, sym, ap, subst, arith}
+use Rattle.std.proofs.Common.{◌≡◌, ◌∙◌, ◌++◌, ℕ, List, length, sym, ap, subst, arith}
 use Rattle.sim_rules_spec.specs.Obligations as rule
 use Rattle.cert_text_spec.specs.Lines.{Leaf}
 use Rattle.cert_check_lines_spec.specs.LineRules.{Passes}

@@ -1,17 +1,17 @@
-use Rattle.std.proofs.Common.{◌≡◌, ◌≤◌, ◌∙◌, ◌∷◌, ◌++◌, [], ℕ, List, Box, Global, length, refl, sym, ap, subst, arith}
+use Rattle.std.proofs.Common.{◌∙◌, ◌++◌, [], ℕ, List, None, length, sym, ap, subst}
 use Rattle.std.specs.Prelude.{Ok, Err}
 use Rattle.path_cond.proofs.Banks.{extends_itself}
 use Rattle.sim_rules_spec.specs.Obligations.{Rule}
 use Rattle.sim_rules.specs.Outcome.{IsCount}
-use Rattle.cert_check_spec.specs.Verdict as listed
 use Rattle.cert_check_jobs.specs.declared.extra.Extra.{Extra}
 use Rattle.cert_check_jobs.specs.declared.jobs.Job.{Job}
 use Rattle.cert_check_jobs.specs.declared.jobs.Job.TheVariants.{Prove}
-use Rattle.cert_check_jobs.specs.Extras.{added_at, frame_added, IsBelow}
+use Rattle.cert_check_jobs.specs.Cuts.{start_seen}
+use Rattle.cert_check_jobs.specs.Extras.{added_at, frame_added, opening_at, IsBelow}
 use Rattle.cert_check_jobs.specs.Goals.{AnswersRule}
 use Rattle.cert_check_jobs.specs.Jobs.{AreInside, logs_last}
 use Rattle.cert_check.specs.Bounds.{HasBound}
-use Rattle.cert_check.proofs.Bounding.{bounded, count_on, no_count, no_goals, one_counted, plain_on, same_tests}
+use Rattle.cert_check.proofs.Bounding.{bounded, count_on, no_count, no_goals, one_counted, plain_on, same_cuts, same_tests}
 use Rattle.cert_check.proofs.InPart.{fault_for, goals_for}
 use Rattle.cert_check.proofs.Leaving.{bounded_kept, first_inside}
 use Rattle.cert_check.proofs.Tops.{one_logged}
@@ -43,17 +43,17 @@ returns-in-Err-clause-step c = λ f is.
     c.take_proof-extra.ensures c.take_proof-extra.new.jobs.items c.goal_fault.result (one_counted c.args.bound c.if-bound-eq0.false)
     (fault_for f c.rule_goals.new.bank c.args.bank.now (rule_on c.args.side c.args.bound) (plain_on c.args.side c.args.bound) c.deref.result.now c.take_proof-extra.result.value c.deref.ensures
     c.in-Err.refusal c.goal_fault.result c.goal_fault.ensures
-    (subst (λ (r : Rule). AnswersRule f (frame_added f.frame (added_at c.args.bank.now c.deref.result.now)) r c.rule_goals.new.bank (Err c.in-Err.refusal)) c.rule_for.ensures (c.in-Err.ensures.goals f is)))
+    (subst (λ (r : Rule). AnswersRule f (opening_at f (start_seen c.deref.result.now.cuts.value.start)) (frame_added f.frame (added_at c.args.bank.now c.deref.result.now)) r c.rule_goals.new.bank (Err c.in-Err.refusal)) c.rule_for.ensures (c.in-Err.ensures.goals f is)))
 
 -- out of memory
 pub returns-clause-step : goal.returns-clause-step
-returns-clause-step c = λ f is. (f.frame, [], tt)
+returns-clause-step c = λ f is. (None, f.frame, [], tt)
 
 pub returns-2-clause-step : goal.returns-2-clause-step
-returns-2-clause-step c = λ f is. (f.frame, [], tt)
+returns-2-clause-step c = λ f is. (None, f.frame, [], tt)
 
 pub returns-3-clause-step : goal.returns-3-clause-step
-returns-3-clause-step c = λ f is. (f.frame, [], tt)
+returns-3-clause-step c = λ f is. (None, f.frame, [], tt)
 
 pub returns-4-clause-step : goal.returns-4-clause-step
 returns-4-clause-step c = λ f is.
@@ -65,7 +65,8 @@ returns-4-clause-step c = λ f is.
     ∙ ap (λ (jobs : List Job). jobs ++ logs_last c.in-Ok.goals.items) c.in-Ok-attempt-2.ensures)
     (goals_for f c.rule_goals.new.bank c.args.bank.now (rule_on c.args.side c.args.bound) (plain_on c.args.side c.args.bound) c.deref.result.now c.take_proof-extra.result.value c.deref.ensures
     c.in-Ok.goals
-    (subst (λ (r : Rule). AnswersRule f (frame_added f.frame (added_at c.args.bank.now c.deref.result.now)) r c.rule_goals.new.bank (Ok c.in-Ok.goals)) c.rule_for.ensures
+    (subst (λ (r : Rule). AnswersRule f (opening_at f (start_seen c.deref.result.now.cuts.value.start)) (frame_added f.frame (added_at c.args.bank.now c.deref.result.now)) r c.rule_goals.new.bank (Ok c.in-Ok.goals))
+    c.rule_for.ensures
     (c.in-Ok.ensures.goals f is)))
 
 pub returns-4-clause-kept : goal.returns-4-clause-kept
@@ -73,6 +74,8 @@ returns-4-clause-kept c =
     bounded_kept c.args.function.now c.args.bank.now c.rule_goals.new.bank _ _ c.args.jobs.now.items c.take_proof-extra.new.jobs.items c.push_goals.new.jobs.items c.take_proof-extra.result
     c.in-Ok-attempt.field-0 c.in-Ok.goals.items c.requires.kept c.rule_goals.ensures.extends c.take_proof-extra.ensures
     (same_tests c.args.side c.take_proof-extra.result.value c.in-Ok-attempt.field-0.value c.args.bound
+    (subst (λ (x : Extra). HasBound x c.args.bound c.in-Ok-attempt.field-0.value c.args.side) c.deref-2.ensures c.in-Ok-attempt.ensures))
+    (same_cuts c.args.side c.take_proof-extra.result.value c.in-Ok-attempt.field-0.value c.args.bound
     (subst (λ (x : Extra). HasBound x c.args.bound c.in-Ok-attempt.field-0.value c.args.side) c.deref-2.ensures c.in-Ok-attempt.ensures))
     c.in-Ok.ensures.within
     (c.in-Ok-attempt-3.ensures ∙ ap (λ (l : List ℕ). c.push_proof.new.jobs.items ++ logs_last l) c.as_slice.ensures.value

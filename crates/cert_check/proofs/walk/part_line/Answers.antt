@@ -1,11 +1,13 @@
-use Rattle.std.proofs.Common.{sym, ◌∙◌, subst, List, Vec, Global}
+use Rattle.std.proofs.Common.{sym, subst, List, Vec, Global}
 use Rattle.std.specs.Prelude.{OnOk}
 use Rattle.cert_text_parse.specs.Views.{line_of}
 use Rattle.cert_text_spec.specs.declared.Symbol.{Symbol}
 use Rattle.cert_text_parse.specs.declared.lines.BinaryRestriction.{BinaryRestriction}
 use Rattle.cert_text_parse.specs.declared.lines.SourceRestriction.{SourceRestriction}
+use Rattle.cert_text_parse.specs.declared.lines.Split.{Split as CodeSplit}
+use Rattle.cert_check.specs.Cuts.{split_line}
 use Rattle.proof_tree.specs.Proofs.{binary_point_of, source_point_of}
-use Rattle.cert_text_spec.specs.Lines.{Case, RestrictBinary, RestrictSource}
+use Rattle.cert_text_spec.specs.Lines.{Case, RestrictBinary, RestrictSource, Relation}
 use Rattle.cert_check.specs.Expectations.{IsNext, AreAfter}
 use Rattle.cert_check.specs.Steps.{IsStep}
 use Rattle.cert_check.proofs.Entered.{no_other_line}
@@ -73,7 +75,42 @@ returns-in-RestrictSource-clause-follows c =
     subst (λ l. OnOk c.restrict_source.result (AreAfter c.args.jobs.now.items (line_of l) c.restrict_source.new.jobs.items)) (sym c.in-RestrictSource.is)
     (subst (λ (r : SourceRestriction). OnOk c.restrict_source.result (AreAfter c.args.jobs.now.items (RestrictSource (source_point_of r.point) r.count) c.restrict_source.new.jobs.items)) c.deref-in-RestrictSource.ensures c.restrict_source.ensures.follows)
 
+pub split-requires-clause-next : goal.split-requires-clause-next
+split-requires-clause-next c =
+    subst (λ (r : CodeSplit). IsNext c.args.jobs.now.items (split_line r)) (sym c.deref-in-Split.ensures)
+    (subst (λ l. IsNext c.args.jobs.now.items (line_of l)) c.in-Split.is c.requires.next)
+
+pub returns-in-Split-clause-step : goal.returns-in-Split-clause-step
+returns-in-Split-clause-step c =
+    subst (λ l. IsStep c.args.function.now c.args.bank.now c.split.new.bank c.args.jobs.now.items c.split.new.jobs.items (line_of l) c.split.result) (sym c.in-Split.is)
+    (subst (λ (r : CodeSplit). IsStep c.args.function.now c.args.bank.now c.split.new.bank c.args.jobs.now.items c.split.new.jobs.items (split_line r) c.split.result) c.deref-in-Split.ensures
+    c.split.ensures.step)
+
+pub returns-in-Split-clause-follows : goal.returns-in-Split-clause-follows
+returns-in-Split-clause-follows c =
+    subst (λ l. OnOk c.split.result (AreAfter c.args.jobs.now.items (line_of l) c.split.new.jobs.items)) (sym c.in-Split.is)
+    (subst (λ (r : CodeSplit). OnOk c.split.result (AreAfter c.args.jobs.now.items (split_line r) c.split.new.jobs.items)) c.deref-in-Split.ensures c.split.ensures.follows)
+
+pub relation-requires-clause-next : goal.relation-requires-clause-next
+relation-requires-clause-next c =
+    subst (λ (t : List Symbol). IsNext c.args.jobs.now.items (Relation t)) (sym c.as_slice-in-Relation.ensures.value)
+    (subst (λ (t : Vec Symbol Global). IsNext c.args.jobs.now.items (Relation t.items)) (sym c.deref-in-Relation.ensures)
+    (subst (λ l. IsNext c.args.jobs.now.items (line_of l)) c.in-Relation.is c.requires.next))
+
+pub returns-in-Relation-clause-step : goal.returns-in-Relation-clause-step
+returns-in-Relation-clause-step c =
+    subst (λ l. IsStep c.args.function.now c.args.bank.now c.relation.new.bank c.args.jobs.now.items c.relation.new.jobs.items (line_of l) c.relation.result) (sym c.in-Relation.is)
+    (subst (λ (t : Vec Symbol Global). IsStep c.args.function.now c.args.bank.now c.relation.new.bank c.args.jobs.now.items c.relation.new.jobs.items (Relation t.items) c.relation.result) c.deref-in-Relation.ensures
+    (subst (λ (t : List Symbol). IsStep c.args.function.now c.args.bank.now c.relation.new.bank c.args.jobs.now.items c.relation.new.jobs.items (Relation t) c.relation.result)
+    c.as_slice-in-Relation.ensures.value c.relation.ensures.step))
+
+pub returns-in-Relation-clause-follows : goal.returns-in-Relation-clause-follows
+returns-in-Relation-clause-follows c =
+    subst (λ l. OnOk c.relation.result (AreAfter c.args.jobs.now.items (line_of l) c.relation.new.jobs.items)) (sym c.in-Relation.is)
+    (subst (λ (t : Vec Symbol Global). OnOk c.relation.result (AreAfter c.args.jobs.now.items (Relation t.items) c.relation.new.jobs.items)) c.deref-in-Relation.ensures
+    (subst (λ (t : List Symbol). OnOk c.relation.result (AreAfter c.args.jobs.now.items (Relation t) c.relation.new.jobs.items)) c.as_slice-in-Relation.ensures.value c.relation.ensures.follows))
+
 pub unreachable-requires : goal.unreachable-requires
 unreachable-requires c =
     no_other_line c.args.line.now c.args.jobs.now.items c.requires.next c.requires.inside c.requires.known c.in_default.not-Leaf c.in_default.not-Case
-    c.in_default.not-RestrictBinary c.in_default.not-RestrictSource c.requires.plain
+    c.in_default.not-RestrictBinary c.in_default.not-RestrictSource c.in_default.not-Split c.in_default.not-Relation c.requires.plain

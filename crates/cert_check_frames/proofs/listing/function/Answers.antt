@@ -1,10 +1,11 @@
-use Rattle.std.proofs.Common.{◌∙◌, ℕ, List, [], Box, Global, get_or, sym, ap}
+use Rattle.std.proofs.Common.{◌∙◌, ℕ, List, [], Box, Global, get_or, refl, sym, ap}
 use Rattle.proof_tree_spec.specs.declared.Place.{Place}
 use Rattle.c_graph_spec.specs.SourceGraph.{body_number}
 use Rattle.cert_check_frames.specs.Entries.{firsts_by, places_by}
 use Rattle.term_core_spec.specs.Term.{open_term}
 use Rattle.term_core.specs.declared.term.Term.{Term as CodeTerm}
 use Rattle.proof_tree.specs.Frames.{terms_of}
+use Rattle.sim_rules_spec.specs.Calling.{zone_from}
 use Rattle.agreement_laws.specs.EntryFrame.{Fact, given}
 use Rattle.cert_check_frames.specs.declared.listed.Fact.{Fact as CodeFact}
 use Rattle.cert_check_frames.specs.Facts.{facts_of}
@@ -20,6 +21,8 @@ returns c = λ q firsts g is convention graphs sites.
       named = sym is.named;
       stack_is = sym is.stack_is;
       convention_is = convention;
+      zone_from_is = ap zone_from (sym is.stack_is);
+      zone_to_is = refl;
       binary_is = binary_is q firsts g _ (ap facts c.as_slice-2.ensures.value ∙ is.binary_are);
       source_is = λ v. ap (λ (l : List Fact). given l open_term v) (sym (ap facts c.as_slice-3.ensures.value ∙ is.source_are)) ∙ sym (given_of _ v);
       frame_is =
